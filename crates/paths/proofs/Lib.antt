@@ -1,0 +1,4 @@
+pub mod Cuts
+pub mod Growth
+pub mod JoinLaws
+pub mod Walking

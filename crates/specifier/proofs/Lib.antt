@@ -1,0 +1,4 @@
+pub mod Copies
+pub mod Firsts
+pub mod Readings
+pub mod Scans

@@ -1,0 +1,5 @@
+pub mod Held
+pub mod Parts
+pub mod Scans
+pub mod Texts
+pub mod Walks
