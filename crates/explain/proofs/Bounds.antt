@@ -26,7 +26,7 @@ use Rattle.specifier.specs.Requests.{escapes, fragment-of, path-of, query-of, r
 use Rattle.specifier.specs.Sought.{sought-on, sought-path}
 use Rattle.paths.specs.Joins.{join, joined, joins}
 use Rattle.paths.proofs.JoinLaws.{join-short}
-use Rattle.paths.proofs.Walking.{went-in}
+use Rattle.texts.proofs.Buffers.{went-in}
 use Rattle.texts.proofs.PartLoops.{some≢none}
 use Rattle.explain.specs.declared.refusal.Refusal.the-variants.{Empty}
 use Rattle.explain.specs.Readings.{Meaning, looks, meant, meant-by, within}

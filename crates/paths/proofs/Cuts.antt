@@ -1,24 +1,23 @@
--- Where a text is cut, by the places of its parts; and texts at the front of a buffer. Assumes nothing.
+-- Where a text is cut, by the places of its parts. Assumes nothing.
 use Prim.Native.Nat.{ℕ, zero, suc, _+_, _-_, _≤_, _<_}
 use native.Mathlib.Omega.{arith}
 use mathlib.Core.Path.{_≡_, refl, sym, ap, _∙_, subst}
 use mathlib.Core.Bool.{Bool, true, false, cond, _&&_, _||_}
 use mathlib.Core.Logic.{⊎-elim}
-use mathlib.Core.List.{List, [], _∷_, _++_, map, append-assoc}
-use borrow.Rule.Slice.PartMut.{putMid}
+use mathlib.Core.List.{List, [], _∷_, _++_, map}
 use lib.Dec.{eqb, leb, ltb}
 use lib.ListN.{length, getD, take, drop}
 use Rattle.std.specs.declared.option.Option.{Option}
 use Rattle.std.specs.declared.option.Option.the-variants.{Some, None}
 use Rattle.std.specs.shelf.Lists.{All}
 use Rattle.std.proofs.shelf.Elements.{all-getD}
-use Rattle.std.proofs.shelf.Lists.{drop-at, drop-drop, getD-map, getD-take, length-append, length-map, length-take, length-take-le, take-append-drop, take-at, take-take}
-use Rattle.std.proofs.shelf.Tests.{cases-lt, cond-both, cond-false, cond-true, le-leb, lt-leb}
+use Rattle.std.proofs.shelf.Lists.{getD-map, getD-take, length-map, length-take}
+use Rattle.std.proofs.shelf.Tests.{cases-lt, cond-both}
 use Rattle.stack.specs.Items.{item-at}
 use Rattle.stack.proofs.Laws.{item-at-beyond, item-at-is}
 use Rattle.paths.specs.declared.path_util.Component.{Component}
 use Rattle.texts.specs.declared.place.Place.{Place}
-use Rattle.texts.specs.Texts.{Text, SLASH, empty, begins, ends, fronted, length-in, buffer-with}
+use Rattle.texts.specs.Texts.{Text, SLASH, empty, begins, ends}
 use Rattle.texts.specs.Parts.{Mark, pieces, solid, placed, inner, headed, marks, place-of, places}
 use Rattle.paths.specs.Joins.{component, last-but-one, cut, cut-length, grown, grown-by, root-length}
 use Rattle.texts.proofs.PartLoops.{some≢none}
@@ -113,45 +112,6 @@ module _ (s : Text) where
 
 pub root-within : (s : Text) → root-length s ≤ length s
 root-within s = cond-both (begins SLASH s) (length s) 0 (λ n. n ≤ length s) (λ _. omega arith) (λ _. omega arith)
-
--- a text written behind the first `a` bytes of a buffer
-pub append-is : (xs ys more : List ℕ) (a : ℕ) → ys ≡ more → a + length more ≤ length xs → putMid a (a + length more - a) xs ys ≡ fronted (take a xs ++ more) xs
-append-is xs ys more a e h =
-    let long : length (take a xs ++ more) ≡ a + (a + length more - a) = omega (arith, length-append (take a xs) more, length-take-le a xs (omega arith)) in
-    ap (putMid a (a + length more - a) xs) e
-    ∙ sym (append-assoc (take a xs) more _)
-    ∙ ap (λ l. (take a xs ++ more) ++ l) (drop-drop (a + length more - a) a xs ∙ ap (λ n. drop n xs) (sym long))
-
--- what is written behind a text that was written
-pub fronted-more : (out out₁ xs ys : List ℕ) (n : ℕ) → out₁ ≡ fronted xs out → n ≡ length xs → fronted (take n out₁ ++ ys) out₁ ≡ fronted (xs ++ ys) out
-fronted-more out out₁ xs ys n e size =
-    let front : take n out₁ ≡ xs = ap (take n) e ∙ take-at xs _ n (sym size) in
-    let both = length-append xs ys in
-    let rest : drop (length (xs ++ ys)) (xs ++ drop (length xs) out) ≡ drop (length (xs ++ ys)) out =
-    ap (λ k. drop k (xs ++ drop (length xs) out)) both
-    ∙ sym (drop-drop (length ys) (length xs) _)
-    ∙ ap (drop (length ys)) (drop-at xs _ (length xs) refl)
-    ∙ drop-drop (length ys) (length xs) out
-    ∙ ap (λ k. drop k out) (sym both) in
-    (λ i. fronted (front i ++ ys) (e i)) ∙ ap (λ l. (xs ++ ys) ++ l) rest
-
--- a text that went to the front of a buffer, and one that did not
-pub goes-in : (xs out : List ℕ) (n : ℕ) (out₁ : List ℕ) → n ≡ length xs → out₁ ≡ fronted xs out → length xs ≤ length out → (Some n ≡ length-in (Some xs) (length out)) × (out₁ ≡ buffer-with (Some xs) out)
-goes-in xs out n out₁ size bytes h =
-    let yes : leb (length xs) (length out) ≡ true = le-leb _ _ h in
-    (ap Some size ∙ sym (cond-true _ _ _ yes), bytes ∙ sym (cond-true _ _ _ yes))
-
-pub stays-out : (xs out : List ℕ) → length out < length xs → (None ≡ length-in (Some xs) (length out)) × (out ≡ buffer-with (Some xs) out)
-stays-out xs out h =
-    let less : leb (length xs) (length out) ≡ false = lt-leb _ _ h in
-    (sym (cond-false _ _ _ less), sym (cond-false _ _ _ less))
-
--- a text that is a front of its buffer is there already
-pub is-there : (out xs : List ℕ) (n m : ℕ) → n ≤ m → m ≤ length out → xs ≡ take n (take m out) → (Some n ≡ length-in (Some xs) (length out)) × (out ≡ buffer-with (Some xs) out)
-is-there out xs n m h k e =
-    let same : xs ≡ take n out = e ∙ take-take n m out h in
-    let long : n ≡ length xs = sym (ap length same ∙ length-take-le n out (omega arith)) in
-    goes-in xs out n out long (sym (take-append-drop n out) ∙ (λ i. sym same i ++ drop (long i) out)) (omega arith)
 
 pub grown-is : (k : Component) (a p : Text) → k ≡ component p → grown a p ≡ grown-by k a p
 unfolding grown

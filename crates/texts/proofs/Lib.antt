@@ -1,3 +1,4 @@
+pub mod Buffers
 pub mod ByteLoops
 pub mod CleanPaths
 pub mod Names

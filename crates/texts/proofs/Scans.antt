@@ -9,13 +9,13 @@ use lib.Dec.{eqb, leb, ltb}
 use lib.ListN.{length, getD, take, drop}
 use Rattle.std.proofs.shelf.Lists.{drop-drop, drop-more, drop-all, getD-drop, length-drop, length-take-le}
 use mathlib.Core.Logic.{⊎-elim}
-use Rattle.std.proofs.shelf.Tests.{and-parts, cases-lt, cond-true, cond-false, eq-eqb, eqb-true, false≢true, ne-eqb, leb-true, lt-ltb, le-ltb}
+use Rattle.std.proofs.shelf.Tests.{and-parts, cases-eq, cases-lt, cond-true, cond-false, eq-eqb, eqb-true, false≢true, ne-eqb, leb-true, lt-ltb, le-ltb}
 use Rattle.std.proofs.shelf.Ways.{tells}
 use Rattle.std.specs.declared.option.Option.the-variants.{Some}
 use Rattle.texts.specs.declared.place.Place.{Place}
 use Rattle.texts.specs.Texts.{Text, SLASH, empty, begins, until}
-use Rattle.texts.specs.Parts.{Mark, root, pieces, before, solid, placed, inner, headed, marks, text-at}
-use Rattle.texts.specs.Scans.{marks-left, stands, Next}
+use Rattle.texts.specs.Parts.{Mark, root, pieces, before, solid, placed, inner, headed, marks, parts, texts-of, text-at}
+use Rattle.texts.specs.Scans.{marks-left, stands, rest-text, Next}
 use Rattle.texts.specs.Walks.{first-place, first-text, but-first}
 use Rattle.texts.proofs.ByteLoops.{until-le}
 
@@ -231,3 +231,48 @@ module _ (t : Text) (at : ℕ) (p : Place) (n : Next t at p) where
 
   pub next-others : marks-left t (p .start + p .len) ≡ but-first (marks-left t at)
   next-others = ap but-first (sym (n .is))
+
+-- the parts of pieces do not depend on where these stand
+texts-inner : (n m : ℕ) (ps : List Text) → texts-of (inner (placed n ps)) ≡ texts-of (inner (placed m ps))
+texts-inner n m [] = refl
+texts-inner n m (p ∷ ps) = at (solid p) (texts-inner (n + length p + 1) (m + length p + 1) ps)
+  where
+    at : (v : Bool) → texts-of (inner (placed (n + length p + 1) ps)) ≡ texts-of (inner (placed (m + length p + 1) ps))
+        → texts-of (cond v ((p, n + length p) ∷ inner (placed (n + length p + 1) ps)) (inner (placed (n + length p + 1) ps))) ≡ texts-of (cond v ((p, m + length p) ∷ inner (placed (m + length p + 1) ps)) (inner (placed (m + length p + 1) ps)))
+    at true e = ap (λ (qs : List Text). p ∷ qs) e
+    at false e = e
+
+parts-slash : (s : Text) → parts (SLASH ∷ s) ≡ root ∷ texts-of (inner (placed 1 (pieces s)))
+unfolding parts
+parts-slash s = ap texts-of (piece-root s)
+
+behind-root : (t : Text) (at : ℕ) → stands t at ≡ true → 0 < at → at < length t → (getD t at 0 ≡ SLASH → ⊥) → (at ≡ 1) × (getD t 0 0 ≡ SLASH)
+behind-root t at s some inside other = (grind (arith, tells), grind (arith, tells))
+
+-- what stands behind a part is what is left, below the root
+pub rest-parts : (t : Text) (at : ℕ) → stands t at ≡ true → 0 < at → parts (rest-text t at) ≡ root ∷ texts-of (marks-left t at)
+rest-parts t at s some = ⊎-elim
+    (λ (h : at < length t). ⊎-elim
+    (λ (e : getD t at 0 ≡ SLASH).
+    ap parts (cond-true _ _ _ (lt-ltb at (length t) h) ∙ cond-true _ _ _ (eq-eqb _ SLASH e) ∙ drop-more t at 0 h ∙ ap (λ (b : ℕ). b ∷ drop (at + 1) t) e)
+    ∙ parts-slash (drop (at + 1) t)
+    ∙ ap (λ (ps : List Text). root ∷ ps) (texts-inner 1 (at + 1) (pieces (drop (at + 1) t)) ∙ ap texts-of (sym (left-later t (at + 1) (omega arith)) ∙ sym (over-slash t at some h e))))
+    (λ (e : getD t at 0 ≡ SLASH → ⊥).
+    let b = behind-root t at s some h e in
+    ap parts (cond-true _ _ _ (lt-ltb at (length t) h) ∙ cond-false _ _ _ (ne-eqb _ SLASH e))
+    ∙ whole t (omega arith) (b .1)
+    ∙ ap (λ (n : ℕ). root ∷ texts-of (marks-left t n)) (sym (b .0)))
+    (cases-eq (getD t at 0) SLASH))
+    (λ (h : length t ≤ at).
+    ap parts (cond-false _ _ _ (le-ltb at (length t) h))
+    ∙ parts-slash []
+    ∙ none-there
+    ∙ ap (λ (ms : List Mark). root ∷ texts-of ms) (sym (at-end t at some h)))
+    (cases-lt at (length t))
+  where
+    none-there : root ∷ texts-of (inner (placed 1 (pieces []))) ≡ root ∷ []
+    none-there = ap (λ (ps : List Text). root ∷ texts-of (inner (placed 1 ps))) pieces-none
+
+    whole : (u : Text) → 0 < length u → getD u 0 0 ≡ SLASH → parts u ≡ root ∷ texts-of (marks-left u 1)
+    whole [] h e = absurd (omega arith)
+    whole (b ∷ u) h e = subst (λ (c : ℕ). parts (c ∷ u) ≡ root ∷ texts-of (marks-left (c ∷ u) 1)) (sym e) (parts-slash u)

@@ -84,6 +84,10 @@ abbrev pub text-in : Option ℕ → List ℕ → Option Text
 text-in None out = None
 text-in (Some n) out = Some (take n out)
 
+-- the first n bytes of a buffer with a text behind them; none if there are not so many
+abbrev pub appended : ℕ → List ℕ → Text → Option Text
+appended n out more = cond (leb n (length out)) (Some (take n out ++ more)) None
+
 -- a text without its final slashes
 abbrev pub unslashed : Text → Text
 unslashed [] = []

@@ -1,5 +1,7 @@
 -- What a scan over a text's parts has still to give. Assumes nothing.
+use mathlib.Core.Bool.{Bool}
 use mathlib.Core.List.{List, [], _∷_}
+use lib.Dec.{ltb}
 use denote.Ref.{now}
 use Rattle.std.specs.declared.option.Option.{Option}
 use Rattle.std.specs.declared.option.Option.the-variants.{Some, None}
@@ -36,3 +38,7 @@ but-first (m ∷ ms) = ms
 abbrev pub places-to-text : Option Place → Text → Option Text
 places-to-text None t = None
 places-to-text (Some p) t = Some (text-at t p)
+
+-- a part was given
+abbrev pub begun : Components → Bool
+begun c = ltb 0 (c .at)

@@ -4,7 +4,7 @@ ghost use Prim.Native.Nat.{_≤_};
 ghost use lib.ListN.{length};
 ghost use Rattle.std.specs.declared.option.Option.the-variants.{Some};
 ghost use Rattle.std.specs.shelf.Text.{sameBytes};
-ghost use Rattle.texts.specs.Texts.{ascii, is-text, until, length-in, buffer-with, unslashed};
+ghost use Rattle.texts.specs.Texts.{appended, ascii, is-text, until, length-in, buffer-with, unslashed};
 
 /// The longest text, in bytes.
 pub const MAX_LEN: usize = 255;
@@ -62,6 +62,22 @@ pub fn copy_text(text: &[u8], out: &mut [u8]) -> Option<usize>
     }
     out[0..len].copy_from_slice(text);
     Some(len)
+}
+
+/// Writes `more` behind the first `len` bytes of `out`, and says how many they are then; where there is no room, `out` stays as it was.
+pub fn append_text(out: &mut [u8], len: usize, more: &[u8]) -> Option<usize>
+    ensures length_if_it_fits { λ r. ⌜ r ≡ length-in (appended len (now (out .entry)) (now (more .entry))) (length (now (out .entry))) ⌝ }
+    ensures bytes_beyond_stay { λ _. ⌜ now (out .exit) ≡ buffer-with (appended len (now (out .entry)) (now (more .entry))) (now (out .entry)) ⌝ }
+{
+    if len > out.len() {
+        return None;
+    }
+    if out.len() - len < more.len() {
+        return None;
+    }
+    let end = len + more.len();
+    out[len..end].copy_from_slice(more);
+    Some(end)
 }
 
 /// `text` without the slashes at its end.

@@ -7,6 +7,7 @@ mod place;
 mod text;
 
 pub use bytes::MAX_LEN;
+pub use bytes::append_text;
 pub use bytes::copy_text;
 pub use bytes::is_ascii;
 pub use bytes::is_text;

@@ -1,12 +1,13 @@
 // How a scan of a text finds its parts.
 ghost use mathlib.Core.Path.{_≡_};
-ghost use mathlib.Core.List.{[]};
+ghost use mathlib.Core.Bool.{true};
+ghost use mathlib.Core.List.{[], _∷_};
 ghost use Prim.Native.Nat.{_<_, _≤_};
 ghost use lib.ListN.{length};
 ghost use Rattle.std.specs.Options.{Cases};
-ghost use Rattle.texts.specs.Parts.{marks};
-ghost use Rattle.texts.specs.Scans.{marks-left, Next};
-ghost use Rattle.texts.specs.Walks.{left, subject, first-place, first-text, places-to-text, but-first};
+ghost use Rattle.texts.specs.Parts.{marks, parts, root, texts-of};
+ghost use Rattle.texts.specs.Scans.{marks-left, Next, rest-text};
+ghost use Rattle.texts.specs.Walks.{begun, left, subject, first-place, first-text, places-to-text, but-first};
 use crate::bytes::position;
 use crate::components::Components;
 use crate::piece::is_solid;
@@ -74,9 +75,26 @@ impl<'a> Components<'a> {
         ensures part_stands_there { λ r. ⌜ places-to-text r (subject (now (self .entry))) ≡ first-text (left (now (self .entry))) ⌝ }
         ensures others_are_left { λ r. ⌜ left (now (self .exit)) ≡ but-first (left (now (self .entry))) ⌝ }
         ensures same_text { λ r. ⌜ subject (now (self .exit)) ≡ subject (now (self .entry)) ⌝ }
+        ensures scan_has_begun { λ r. ⌜ Cases r (Unit {0}) (λ _. begun (now (self .exit)) ≡ true) ⌝ }
     {
         let place = next_part(self.text, self.at)?;
         self.at = place.start + place.len;
         Some(place)
+    }
+
+    /// What stands behind the last part that was given, as a path of its own: what is left, below the root.
+    pub fn rest(&self) -> &'a [u8]
+        ensures text_behind_the_part { λ r. ⌜ now r ≡ rest-text (subject (now (self .entry))) (now (self .entry) .at) ⌝ }
+        ensures parts_left_below_the_root { λ r. ⌜ (begun (now (self .entry)) ≡ true → parts (now r) ≡ root ∷ texts-of (left (now (self .entry)))) ⌝ }
+    {
+        let text = self.text;
+        let at = self.at;
+        if at >= text.len() {
+            b"/"
+        } else if text[at] == b'/' {
+            &text[at..]
+        } else {
+            text
+        }
     }
 }

@@ -6,7 +6,7 @@ use lib.ListN.{length, take}
 use Rattle.std.proofs.shelf.Lists.{length-take-le, length-append}
 use Rattle.texts.specs.Texts.{fronted}
 use Rattle.paths.specs.Joins.{separator, slashed}
-use Rattle.paths.proofs.Cuts.{fronted-more, goes-in, stays-out}
+use Rattle.texts.proofs.Buffers.{fronted-more, goes-in, stays-out}
 use Rattle.paths.proofs.path_util.add_name.Needs as need
 use Rattle.paths.proofs.path_util.add_name.Needs.{then-room-slash·by·then-room-slash, then-room-slash·by·else-room-slash·then-room-slash-2}
 

@@ -1,5 +1,5 @@
 use mathlib.Core.Path.{refl}
-use Rattle.paths.proofs.Cuts.{append-is}
+use Rattle.texts.proofs.Buffers.{append-is}
 use Rattle.paths.proofs.path_util.append.Needs as need
 
 pub returns : need.returns

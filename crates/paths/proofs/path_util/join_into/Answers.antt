@@ -13,7 +13,8 @@ use Rattle.texts.specs.Texts.{Text, length-in, text-in, buffer-with}
 use Rattle.texts.specs.Parts.{Mark, marks, parts, texts-of}
 use Rattle.paths.specs.Joins.{join, joined, peak, walked, walked-within}
 use Rattle.paths.proofs.JoinLaws.{join-walk, join-whole}
-use Rattle.paths.proofs.Walking.{copied-in, copied-within, peak-low, went-in, went-out}
+use Rattle.texts.proofs.Buffers.{copied-in, copied-within, went-in, went-out}
+use Rattle.paths.proofs.Walking.{peak-low}
 use Rattle.paths.proofs.path_util.join_into.Needs as need
 
 whole : (a b out out₁ : List ℕ) (r : Option ℕ) → length out ≡ 255 → r ≡ length-in (Some b) (length out) → out₁ ≡ buffer-with (Some b) out → (join a b ≡ b) → text-in r out₁ ≡ cond (leb (length b) 255) (Some (join a b)) None

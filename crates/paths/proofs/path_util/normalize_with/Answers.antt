@@ -1,7 +1,7 @@
 use mathlib.Core.Path.{_≡_, _∙_, ap, sym}
 use Rattle.paths.specs.Joins.{joined}
 use Rattle.paths.proofs.JoinLaws.{join-clean, join-keeps, join-short}
-use Rattle.paths.proofs.Walking.{handed-out, refused}
+use Rattle.texts.proofs.Buffers.{handed-out, refused}
 use Rattle.paths.proofs.path_util.normalize_with.Needs as need
 
 pub returns-in-Break-len : need.returns-in-Break-len

@@ -9,7 +9,8 @@ use Rattle.paths.specs.declared.path_util.Component.the-variants.{CurDir, Pare
 use Rattle.texts.specs.Texts.{Text, length-in, buffer-with}
 use Rattle.texts.specs.Parts.{marks}
 use Rattle.paths.specs.Joins.{component, cut, cut-length, grown}
-use Rattle.paths.proofs.Cuts.{is-there, grown-is, cut-is}
+use Rattle.texts.proofs.Buffers.{is-there}
+use Rattle.paths.proofs.Cuts.{cut-is, grown-is}
 use Rattle.paths.proofs.path_util.push_component.Needs as need
 
 up : (text part : List ℕ) (len n : ℕ) → ParentDir ≡ component part → n ≡ cut-length (take (len - 0) text) (marks (take (len - 0) text)) → grown (take len text) part ≡ take n (take len text)

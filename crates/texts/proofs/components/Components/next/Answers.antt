@@ -1,4 +1,7 @@
 use mathlib.Core.Path.{refl}
+use Prim.Native.Nat.{_+_}
+use native.Mathlib.Omega.{arith}
+use Rattle.std.proofs.shelf.Tests.{lt-ltb}
 use Rattle.texts.proofs.Scans.{next-others, next-place, next-text}
 use Rattle.texts.proofs.components.Components.next.Needs as need
 
@@ -13,4 +16,5 @@ returns c =
       part-stands-there = next-text t at p n;
       others-are-left = next-others t at p n;
       same-text = refl;
+      scan-has-begun = lt-ltb 0 (p .start + p .len) (omega (arith, n .some));
     }

@@ -1,0 +1,4 @@
+pub mod Entering
+pub mod Kept
+pub mod Printables
+pub mod Rows

@@ -1,0 +1,4 @@
+pub mod Entries
+pub mod Kinds
+pub mod Meanings
+pub mod Rows

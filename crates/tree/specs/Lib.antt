@@ -1,0 +1,3 @@
+pub mod Acceptances
+pub mod Endings
+pub mod Meanings
