@@ -1,5 +1,7 @@
 // The worked examples of docs/, as tests. They stand in a crate of their own, so that the crates they look at are proved once.
 #[cfg(test)]
+mod layers;
+#[cfg(test)]
 mod lines;
 #[cfg(test)]
 mod requests;

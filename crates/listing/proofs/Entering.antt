@@ -1,13 +1,13 @@
 -- A line that is offered: what is returned, and the rows then. Assumes nothing.
 use mathlib.Core.Path.{_≡_, refl, sym, ap, _∙_}
-use mathlib.Core.Bool.{Bool, true, false, cond}
+use mathlib.Core.Bool.{Bool, true, false, cond, not}
 use mathlib.Core.List.{List, [], _∷_, _++_, map}
 use Prim.Native.Nat.{ℕ, _+_, _<_, _≤_}
 use native.Mathlib.Omega.{arith}
 use lib.Dec.{leb}
 use lib.ListN.{length, set, take}
 use Rattle.std.proofs.shelf.Lists.{length-push, map-push, take-more-set}
-use Rattle.std.proofs.shelf.Tests.{and-from, and-parts, leb-false}
+use Rattle.std.proofs.shelf.Tests.{and-from, and-parts, leb-false, not-false}
 use Rattle.std.specs.declared.option.Option.{Option}
 use Rattle.std.specs.declared.option.Option.the-variants.{None, Some}
 use Rattle.texts.specs.Texts.{Text}
@@ -52,17 +52,13 @@ left-out : {A : Type 0} (v : Bool) (x : A) (o : Option A) → cond v (Some x) o 
 left-out true x o h = absurd (some-none x h)
 left-out false x o h = (refl, h)
 
-let-in : {A : Type 0} (v : Bool) (x : A) (o : Option A) → cond v o (Some x) ≡ None → (v ≡ true) × (o ≡ None)
-let-in true x o h = (refl, h)
-let-in false x o h = absurd (some-none x h)
-
 taken-fits : (rs : List Row) (k : LineKind) (a b : Text) → refusal-of rs k a b ≡ None → (fit (row-of k a b) ≡ true) × (length rs < 256)
 taken-fits rs k a b h =
     let headed = left-out (headless k rs) _ _ h in
-    let texts = let-in (spelled k a b) _ _ (headed .1) in
-    let form = let-in (formed k a b) _ _ (texts .1) in
+    let texts = left-out (not (spelled k a b)) _ _ (headed .1) in
+    let form = left-out (not (formed k a b)) _ _ (texts .1) in
     let room = left-out (leb 256 (length rs)) _ _ (form .1) in
-    (and-from _ _ (and-parts _ _ (texts .0) .0) (form .0), leb-false 256 (length rs) (room .0))
+    (and-from _ _ (and-parts _ _ (not-false (spelled k a b) (texts .0)) .0) (not-false (formed k a b) (form .0)), leb-false 256 (length rs) (room .0))
 
 -- a line that is taken, in the next slot
 module _ (s : Listing) (k : LineKind) (a b : Text) (o : Option Refusal) (is : o ≡ refusal-of (rows s) k a b) (none : o ≡ None) where

@@ -44,11 +44,9 @@ spelled k a b = sized k (length a) (length b) && (printable a && printable b)
 abbrev pub refusal-of : List Row → LineKind → Text → Text → Option Refusal
 refusal-of rs k a b =
     cond (headless k rs) (Some refusals.MainBeforeManifest)
-    (cond (spelled k a b)
-    (cond (formed k a b)
-    (cond (leb 256 (length rs)) (Some refusals.Full) None)
-    (Some refusals.Form))
-    (Some refusals.Text))
+    (cond (not (spelled k a b)) (Some refusals.Text)
+    (cond (not (formed k a b)) (Some refusals.Form)
+    (cond (leb 256 (length rs)) (Some refusals.Full) None)))
 
 -- the same for a number that may be none of a kind
 abbrev pub refusal-by : List Row → Option LineKind → Text → Text → Option Refusal

@@ -16,6 +16,7 @@ use Rattle.texts.proofs.Buffers.{went-in, went-out}
 use Rattle.texts.proofs.PartLoops.{some≢none}
 use Rattle.tree.specs.declared.answers.Lookup.the-variants.{Broken, Found, Missing}
 use Rattle.tree.specs.Meanings.{Finding, Path, answered, faulty, found, missing, path-found}
+use Rattle.tree.proofs.Findings.{found-there}
 use Rattle.mount.specs.Mounts.{chosen, in-front, stripped}
 
 module _ (at path : Text) where
@@ -24,12 +25,6 @@ module _ (at path : Text) where
 
   pub front-long : 255 < length at + length path → in-front at (found path) ≡ missing
   front-long h = cond-false _ _ _ (lt-leb _ _ h)
-
-found≢missing : (n : ℕ) → Found n ≡ Missing → ⊥
-found≢missing n e = let z : _≡_ {A = ℕ} 0 1 = cc in absurd (omega arith)
-
-found≢broken : (n : ℕ) → Found n ≡ Broken → ⊥
-found≢broken n e = let z : _≡_ {A = ℕ} 0 1 = cc in absurd (omega arith)
 
 found-in : (s : Text) (len n : ℕ) → Some len ≡ length-in (Some s) n → Found len ≡ answered (found s) n
 found-in s len n e = at (leb (length s) n) e
@@ -93,20 +88,7 @@ front-unheld at path out n size r =
     let long : 255 < length at + length path = omega (arith, went-out at n r) in
     (ap (λ (f : Finding). answered f (length out)) (sym (front-long at path long)), ap (λ (f : Finding). buffer-with (path-found f) out) (sym (front-long at path long)))
 
--- what a host below wrote to a buffer of 255 bytes
-pub found-there : (m : Finding) (path path₁ : Text) (len : ℕ) → length path ≡ 255 → Found len ≡ answered m 255 → path₁ ≡ buffer-with (path-found m) path → m ≡ found (take (len - 0) path₁)
-found-there (found p) path path₁ len size e w =
-    let fit = found-fits (leb (length p) 255) (length p) len e in
-    let i = went-in p path path₁ len (ap Some (fit .1) ∙ sym (cond-true _ _ _ (ap (λ (n : ℕ). leb (length p) n) size ∙ fit .0))) w in
-    let from : len - 0 ≡ len = omega arith in
-    ap found (sym (i .0) ∙ ap (λ (n : ℕ). take n path₁) (sym from))
-  where
-    found-fits : (v : Bool) (n k : ℕ) → Found k ≡ cond v (Found n) Missing → (v ≡ true) × (k ≡ n)
-    found-fits true n k e = let z : k ≡ n = cc in (refl, z)
-    found-fits false n k e = absurd (found≢missing k e)
-found-there missing path path₁ len size e w = absurd (found≢missing len e)
-found-there faulty path path₁ len size e w = absurd (found≢broken len e)
-
+-- what a host below wrote, with the mount in front
 pub found-below : (at at₁ at₂ : Text) (dir q : Path) (x : Finding) (f : Path → Finding) (path path₁ : Text) (len : ℕ) → at₁ ≡ at → at₂ ≡ at → stripped (parts at₁) dir ≡ Some q → length path ≡ 255 → Found len ≡ answered (f q) 255 → path₁ ≡ buffer-with (path-found (f q)) path → in-front at₂ (found (take (len - 0) path₁)) ≡ chosen (stripped (parts at) dir) x (λ e. in-front at (f e))
 found-below at at₁ at₂ dir q x f path path₁ len e₁ e₂ s size e w =
     (λ i. in-front (e₂ i) (sym (found-there (f q) path path₁ len size e w) i))
