@@ -26,11 +26,11 @@ abbrev pub ignoring : Text → Text → Attempt
 ignoring dir l = cond (joins dir (key l)) (ignored (join dir (key l))) overlong
 
 -- a value that rewrites is an attempt; one that is skipped is none
-abbrev pub attempt-of : Text → Rewritten → Option Attempt
-attempt-of v skipped = None
-attempt-of v as_written = Some (again v)
-attempt-of v (made t) = Some (again t)
-attempt-of v too_long = Some overlong
+abbrev pub attempt_of : Text → Rewritten → Option Attempt
+attempt_of v skipped = None
+attempt_of v as_written = Some (again v)
+attempt_of v (made t) = Some (again t)
+attempt_of v too_long = Some overlong
 
 -- an attempt with those behind it, which an end has none of; where there is no attempt, those that follow then
 abbrev pub onward : Option Attempt → List Attempt → List Attempt → List Attempt
@@ -39,16 +39,16 @@ onward (Some a) passed tried = a ∷ cond (last a) [] tried
 
 module _ (m : Meaning) (dir r : Text) where
   -- what one value of a label makes of the request
-  abbrev pub value-attempt : Text → Value → Option Attempt
-  value-attempt l ignore = Some (ignoring dir l)
-  value-attempt l (to v) = attempt-of v (rewritten m l v r)
+  abbrev pub value_attempt : Text → Value → Option Attempt
+  value_attempt l ignore = Some (ignoring dir l)
+  value_attempt l (to v) = attempt_of v (rewritten m l v r)
 
   -- the values of a label that touches the request, in turn; where one was tried, no later label follows
-  abbrev pub value-attempts : Text → List Value → Bool → List Attempt → List Attempt
-  value-attempts l [] tried later = cond tried (unmatched r (key l) ∷ []) later
-  value-attempts l (v ∷ vs) tried later = onward (value-attempt l v) (value-attempts l vs tried later) (value-attempts l vs true later)
+  abbrev pub value_attempts : Text → List Value → Bool → List Attempt → List Attempt
+  value_attempts l [] tried later = cond tried (unmatched r (key l) ∷ []) later
+  value_attempts l (v ∷ vs) tried later = onward (value_attempt l v) (value_attempts l vs tried later) (value_attempts l vs true later)
 
   -- the labels, in the order written
   unfoldable pub attempts : List Alias → List Attempt
   attempts [] = []
-  attempts (a ∷ more) = cond (touches a.label r) (value-attempts a.label a.values false (attempts more)) (attempts more)
+  attempts (a ∷ more) = cond (touches a.label r) (value_attempts a.label a.values false (attempts more)) (attempts more)

@@ -18,11 +18,11 @@ abbrev pub key : Text → Text
 key l = cond (ends DOLLAR l) (take (length l - 1) l) l
 
 -- what stands before the first `*` of a text, and behind it
-abbrev pub before-star : Text → Text
-before-star t = take (until STAR t) t
+abbrev pub before_star : Text → Text
+before_star t = take (until STAR t) t
 
-abbrev pub behind-star : Text → Text
-behind-star t = drop (until STAR t + 1) t
+abbrev pub behind_star : Text → Text
+behind_star t = drop (until STAR t + 1) t
 
 -- a label's form: exact, a wildcard with prefix and suffix, or plain
 pub data Form : Type 0 where
@@ -32,7 +32,7 @@ pub data Form : Type 0 where
 
 -- a final `$` makes a label exact; otherwise the first `*` splits it; otherwise it is plain
 unfoldable pub form : Text → Form
-form l = cond (ends DOLLAR l) (exact (key l)) (cond (has STAR l) (wildcard (before-star l) (behind-star l)) (plain l))
+form l = cond (ends DOLLAR l) (exact (key l)) (cond (has STAR l) (wildcard (before_star l) (behind_star l)) (plain l))
 
 -- what is left of a text behind a beginning; none if it begins otherwise
 abbrev pub behind : Text → Text → Option Text
@@ -44,21 +44,21 @@ goes_on [] = false
 goes_on (b ∷ s) = b == SLASH || b == BACKSLASH
 
 -- what is left behind a plain label is nothing, or goes on as a path does
-abbrev pub ends-or-goes-on : Option Text → Bool
-ends-or-goes-on None = false
-ends-or-goes-on (Some tail) = empty tail || goes_on tail
+abbrev pub ends_or_goes_on : Option Text → Bool
+ends_or_goes_on None = false
+ends_or_goes_on (Some tail) = empty tail || goes_on tail
 
 -- a request has the first byte of a prefix; an empty prefix asks for nothing
-abbrev pub first-byte-fits : Text → Text → Bool
-first-byte-fits [] r = true
-first-byte-fits (b ∷ prefix) r = begins b r
+abbrev pub first_byte_fits : Text → Text → Bool
+first_byte_fits [] r = true
+first_byte_fits (b ∷ prefix) r = begins b r
 
 -- a label of this form touches a request: an exact one itself, a wildcard what has its prefix's first byte, a plain one itself and what goes on behind it
-abbrev pub form-touches : Form → Text → Bool
-form-touches (exact k) r = bytes_eq k r
-form-touches (wildcard prefix suffix) r = first-byte-fits prefix r
-form-touches (plain k) r = ends-or-goes-on (behind k r)
+abbrev pub form_touches : Form → Text → Bool
+form_touches (exact k) r = bytes_eq k r
+form_touches (wildcard prefix suffix) r = first_byte_fits prefix r
+form_touches (plain k) r = ends_or_goes_on (behind k r)
 
 -- a label touches a request
 unfoldable pub touches : Text → Text → Bool
-touches l r = form-touches (form l) r
+touches l r = form_touches (form l) r

@@ -69,6 +69,6 @@ tryings =
     ∷ []
 
 -- each label touches so, and from each table this is tried
-pub record Worked-examples : Type 0 where
-  pub touched-so : AllByRecursion (λ x. touches x.0 x.1 ≡ x.2) touchings
-  pub tried-so : AllByRecursion (λ x. attempts (only (codes "/f")) (codes "/lib") x.1 x.0 ≡ x.2) tryings
+pub record WorkedExamples : Type 0 where
+  pub touched_so : AllByRecursion (λ x. touches x.0 x.1 ≡ x.2) touchings
+  pub tried_so : AllByRecursion (λ x. attempts (only (codes "/f")) (codes "/lib") x.1 x.0 ≡ x.2) tryings

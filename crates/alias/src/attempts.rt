@@ -2,12 +2,12 @@
 ghost use Rattle.std.specs.Prelude.{◌≡◌, ◌<◌, ◌≤◌, ◌-◌, ℕ, Bool, false, List, IfSome, Some, map, drop, length, take};
 ghost use Rattle.texts.specs.Texts.{Text, fronted};
 ghost use Rattle.std.specs.Option.{option_map};
-ghost use Rattle.settings.specs.Rows.{alias-of, value_of};
+ghost use Rattle.settings.specs.Rows.{alias_of, value_of};
 ghost use Rattle.settings.specs.Tables.{Alias};
 ghost use Rattle.tree.specs.Meanings.{Meaning};
-ghost use Rattle.alias.specs.Attempts.{Attempt as Tried, attempts, ignoring, value-attempt};
-ghost use Rattle.alias.specs.Left.{Row-taken, Taken, Value-found, ends-search, first-value, gone-to, label-tried, left, row-left, row-said, said, said-by, value-text, value-tried, values-left, written-length};
-ghost use Rattle.alias.specs.Laws.{Untouching-label-changes-nothing};
+ghost use Rattle.alias.specs.Attempts.{Attempt as Tried, attempts, ignoring, value_attempt};
+ghost use Rattle.alias.specs.Left.{RowTaken, Taken, ValueFound, ends_search, first_value, gone_to, label_tried, left, row_left, row_said, said, said_by, value_text, value_tried, values_left, written_length};
+ghost use Rattle.alias.specs.Laws.{UntouchingLabelChangesNothing};
 
 use crate::label::{key, key_matches};
 use crate::rewrite::{NewRequest, Rewrite, load_alias_value};
@@ -41,7 +41,7 @@ pub struct Progress {
 impl Attempt {
     // Whether nothing is tried behind it.
     fn is_last(self) -> bool
-        ensures all_but_another_request { result ≡ ends-search self }
+        ensures all_but_another_request { result ≡ ends_search self }
     {
         match self {
             Attempt::Again(_) => false,
@@ -53,8 +53,8 @@ impl Attempt {
 // The attempt of a label that ignores a request from a directory.
 fn ignored(directory: &[u8], label: &[u8], work: &mut [u8]) -> Attempt
     requires room_for_a_text { 255 ≤ length work.old }
-    ensures label_joined_to_the_directory { (v r : Text) → said-by v label.now r work.new result ≡ ignoring directory.now label.now }
-    ensures only_its_text_is_written { work.new ≡ fronted (take (written-length (Some result)) work.new) work.old }
+    ensures label_joined_to_the_directory { (v r : Text) → said_by v label.now r work.new result ≡ ignoring directory.now label.now }
+    ensures only_its_text_is_written { work.new ≡ fronted (take (written_length (Some result)) work.new) work.old }
 {
     match normalize_with(directory, key(label), work) {
         Some(len) => Attempt::Ignored(len),
@@ -73,8 +73,8 @@ fn try_value<T: FileTree>(
 ) -> Option<Attempt>
     requires sound { T.FileTree.sound tree.old }
     requires room_for_a_text { 255 ≤ length work.old }
-    ensures attempt_of_the_value { option_map (said-by (value-text (value_of value.now)) label.now request.now work.new) result ≡ value-attempt (T.FileTree.meaning tree.old) directory.now request.now label.now (value_of value.now) }
-    ensures only_its_text_is_written { work.new ≡ fronted (take (written-length result) work.new) work.old }
+    ensures attempt_of_the_value { option_map (said_by (value_text (value_of value.now)) label.now request.now work.new) result ≡ value_attempt (T.FileTree.meaning tree.old) directory.now request.now label.now (value_of value.now) }
+    ensures only_its_text_is_written { work.new ≡ fronted (take (written_length result) work.new) work.old }
     ensures same_meaning { T.FileTree.meaning tree.new ≡ T.FileTree.meaning tree.old }
     ensures still_sound { T.FileTree.sound tree.new }
 {
@@ -99,9 +99,9 @@ fn next_value<T: FileTree>(
 ) -> Option<(usize, Attempt)>
     requires sound { T.FileTree.sound tree.old }
     requires room_for_a_text { 255 ≤ length work.old }
-    ensures first_value_that_is_not_passed_over { (tried : Bool) (later : List Tried) → Value-found (T.FileTree.meaning tree.old) directory.now request.now (alias-of row.now) (drop from (alias-of row.now).values) work.new tried later result }
+    ensures first_value_that_is_not_passed_over { (tried : Bool) (later : List Tried) → ValueFound (T.FileTree.meaning tree.old) directory.now request.now (alias_of row.now) (drop from (alias_of row.now).values) work.new tried later result }
     ensures place_among_four { IfSome result (λ x. x.0 < 4) }
-    ensures only_its_text_is_written { work.new ≡ fronted (take (written-length (option_map (λ x. x.1) result)) work.new) work.old }
+    ensures only_its_text_is_written { work.new ≡ fronted (take (written_length (option_map (λ x. x.1) result)) work.new) work.old }
     ensures same_meaning { T.FileTree.meaning tree.new ≡ T.FileTree.meaning tree.old }
     ensures still_sound { T.FileTree.sound tree.new }
 {
@@ -137,7 +137,7 @@ impl Progress {
 
     /// The label that was come to.
     pub fn label<'a>(&self, aliases: &'a [AliasRow]) -> &'a [u8]
-        ensures label_that_was_come_to { result.now ≡ label-tried (map alias-of aliases.now) self.now }
+        ensures label_that_was_come_to { result.now ≡ label_tried (map alias_of aliases.now) self.now }
     {
         if self.label < aliases.len() {
             aliases[self.label].label()
@@ -148,7 +148,7 @@ impl Progress {
 
     /// The text of the value that was tried last.
     pub fn value<'a>(&self, aliases: &'a [AliasRow]) -> &'a [u8]
-        ensures value_that_was_tried_last { result.now ≡ value-tried (map alias-of aliases.now) self.now }
+        ensures value_that_was_tried_last { result.now ≡ value_tried (map alias_of aliases.now) self.now }
         ensures at_most_96_bytes { length result.now ≤ 96 }
     {
         if self.label < aliases.len() {
@@ -160,7 +160,7 @@ impl Progress {
 
     // Goes on to a label: stays where it is, or begins with the first value of a later one.
     fn go_to(&mut self, label: usize)
-        ensures same_label_or_a_fresh_one { self.new ≡ gone-to label self.old }
+        ensures same_label_or_a_fresh_one { self.new ≡ gone_to label self.old }
     {
         if label != self.label {
             *self = Progress {
@@ -185,8 +185,8 @@ impl Progress {
         requires room_for_a_text { 255 ≤ length work.old }
         requires not_done { self.old.done ≡ false }
         ensures same_label { self.new.label ≡ self.old.label }
-        ensures next_of_its_values { (later : List Tried) → Row-taken (values-left (T.FileTree.meaning tree.old) directory.now request.now (alias-of row.now) self.old later) (option_map (row-said (alias-of row.now) self.new request.now work.new) result) (values-left (T.FileTree.meaning tree.old) directory.now request.now (alias-of row.now) self.new later) self.new.done later }
-        ensures only_its_text_is_written { work.new ≡ fronted (take (written-length result) work.new) work.old }
+        ensures next_of_its_values { (later : List Tried) → RowTaken (values_left (T.FileTree.meaning tree.old) directory.now request.now (alias_of row.now) self.old later) (option_map (row_said (alias_of row.now) self.new request.now work.new) result) (values_left (T.FileTree.meaning tree.old) directory.now request.now (alias_of row.now) self.new later) self.new.done later }
+        ensures only_its_text_is_written { work.new ≡ fronted (take (written_length result) work.new) work.old }
         ensures same_meaning { T.FileTree.meaning tree.new ≡ T.FileTree.meaning tree.old }
         ensures still_sound { T.FileTree.sound tree.new }
     {
@@ -216,8 +216,8 @@ impl Progress {
         requires room_for_a_text { 255 ≤ length work.old }
         requires not_done { self.old.done ≡ false }
         ensures same_label { self.new.label ≡ self.old.label }
-        ensures next_of_the_label { (later : List Tried) → Row-taken (row-left (T.FileTree.meaning tree.old) directory.now request.now (alias-of row.now) self.old later) (option_map (row-said (alias-of row.now) self.new request.now work.new) result) (row-left (T.FileTree.meaning tree.old) directory.now request.now (alias-of row.now) self.new later) self.new.done later }
-        ensures only_its_text_is_written { work.new ≡ fronted (take (written-length result) work.new) work.old }
+        ensures next_of_the_label { (later : List Tried) → RowTaken (row_left (T.FileTree.meaning tree.old) directory.now request.now (alias_of row.now) self.old later) (option_map (row_said (alias_of row.now) self.new request.now work.new) result) (row_left (T.FileTree.meaning tree.old) directory.now request.now (alias_of row.now) self.new later) self.new.done later }
+        ensures only_its_text_is_written { work.new ≡ fronted (take (written_length result) work.new) work.old }
         ensures same_meaning { T.FileTree.meaning tree.new ≡ T.FileTree.meaning tree.old }
         ensures still_sound { T.FileTree.sound tree.new }
     {
@@ -237,10 +237,10 @@ impl Progress {
         work: &mut [u8],
     ) -> Option<Attempt>
         requires sound { T.FileTree.sound tree.old }
-        ensures next_in_the_list { 255 ≤ length work.old → Taken (left (T.FileTree.meaning tree.old) directory.now request.now (map alias-of aliases.now) self.old) (option_map (said (map alias-of aliases.now) self.new request.now work.new) result) (left (T.FileTree.meaning tree.old) directory.now request.now (map alias-of aliases.now) self.new) }
+        ensures next_in_the_list { 255 ≤ length work.old → Taken (left (T.FileTree.meaning tree.old) directory.now request.now (map alias_of aliases.now) self.old) (option_map (said (map alias_of aliases.now) self.new request.now work.new) result) (left (T.FileTree.meaning tree.old) directory.now request.now (map alias_of aliases.now) self.new) }
         ensures short_work_text_is_refused { length work.old < 255 → (result ≡ Some Attempt.TooLong) × ((self.new ≡ self.old) × (tree.new ≡ tree.old)) }
-        ensures only_its_text_is_written { work.new ≡ fronted (take (written-length result) work.new) work.old }
-        ensures untouching_label_changes_nothing { Untouching-label-changes-nothing (T.FileTree.meaning tree.old) directory.now request.now }
+        ensures only_its_text_is_written { work.new ≡ fronted (take (written_length result) work.new) work.old }
+        ensures untouching_label_changes_nothing { UntouchingLabelChangesNothing (T.FileTree.meaning tree.old) directory.now request.now }
         ensures same_meaning { T.FileTree.meaning tree.new ≡ T.FileTree.meaning tree.old }
         ensures still_sound { T.FileTree.sound tree.new }
     {
@@ -263,7 +263,7 @@ impl Progress {
 
 // The text of a value of a label, from the first one on; none has no bytes.
 fn value_at(row: &AliasRow, i: usize) -> &[u8]
-    ensures text_of_the_value { result.now ≡ first-value (drop i (alias-of row.now).values) }
+    ensures text_of_the_value { result.now ≡ first_value (drop i (alias_of row.now).values) }
     ensures at_most_96_bytes { length result.now ≤ 96 }
 {
     let values = row.values();

@@ -1,10 +1,10 @@
 // The forms of labels, and which requests a label touches.
 ghost use Rattle.std.specs.Prelude.{◌≡◌};
 ghost use Rattle.std.specs.Option.{option_map};
-ghost use Rattle.alias.specs.Forms.{behind, first-byte-fits, form, form-touches, goes_on, key as key-of, touches};
+ghost use Rattle.alias.specs.Forms.{behind, first_byte_fits, form, form_touches, goes_on, key as key_of, touches};
 ghost use Rattle.alias.specs.Labels.{formed};
 ghost use Rattle.texts.specs.Texts.{ends};
-ghost use Rattle.alias.specs.Laws.{Exact-touches-itself, Plain-touches-what-it-continues};
+ghost use Rattle.alias.specs.Laws.{ExactTouchesItself, PlainTouchesWhatItContinues};
 
 use texts::{position, same_bytes};
 
@@ -51,7 +51,7 @@ fn ends_in_dollar(label: &[u8]) -> bool
 
 /// The label without its final `$`.
 pub fn key(label: &[u8]) -> &[u8]
-    ensures label_without_its_dollar { result.now ≡ key-of label.now }
+    ensures label_without_its_dollar { result.now ≡ key_of label.now }
 {
     if ends_in_dollar(label) {
         return &label[0..label.len() - 1];
@@ -79,7 +79,7 @@ impl<'a> AliasMatchKind<'a> {
 
     // Whether a label of this form touches a request.
     fn touches(self, request: &[u8]) -> bool
-        ensures touched_by_its_form { result ≡ form-touches (formed self.entry) request.now }
+        ensures touched_by_its_form { result ≡ form_touches (formed self.entry) request.now }
     {
         match self {
             AliasMatchKind::Exact(key) => same_bytes(key, request),
@@ -94,7 +94,7 @@ impl<'a> AliasMatchKind<'a> {
 
 // Whether a request has a prefix's first byte, if the prefix has one.
 fn begins_alike(prefix: &[u8], request: &[u8]) -> bool
-    ensures first_byte_of_the_prefix { result ≡ first-byte-fits prefix.now request.now }
+    ensures first_byte_of_the_prefix { result ≡ first_byte_fits prefix.now request.now }
 {
     match (prefix, request) {
         ([], _) => true,
@@ -106,8 +106,8 @@ fn begins_alike(prefix: &[u8], request: &[u8]) -> bool
 /// Whether a label touches a request.
 pub fn key_matches(label: &[u8], request: &[u8]) -> bool
     ensures touched_by_its_form { result ≡ touches label.now request.now }
-    ensures plain_label_touches_itself_and_what_continues_it { Plain-touches-what-it-continues label.now request.now }
-    ensures exact_label_touches_nothing_but_itself { Exact-touches-itself label.now request.now }
+    ensures plain_label_touches_itself_and_what_continues_it { PlainTouchesWhatItContinues label.now request.now }
+    ensures exact_label_touches_nothing_but_itself { ExactTouchesItself label.now request.now }
 {
     AliasMatchKind::of(label).touches(request)
 }

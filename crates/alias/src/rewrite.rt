@@ -2,13 +2,13 @@
 ghost use Rattle.std.specs.Prelude.{◌≡◌, ◌≤◌, ◌++◌, Some, length, not};
 ghost use Rattle.std.specs.Option.{option_map};
 ghost use Rattle.texts.specs.Held.{bytes_of};
-ghost use Rattle.texts.specs.Texts.{buffer-with, empty, length-in, text_in};
-ghost use Rattle.paths.specs.Joins.{normalize as normalize-of};
-ghost use Rattle.tree.specs.Meanings.{kind-of};
-ghost use Rattle.alias.specs.Answers.{Asked-if, asks, form-asks, held-request, made-of, new-request, request-text, text-made, told, within};
+ghost use Rattle.texts.specs.Texts.{buffer_with, empty, length_in, text_in};
+ghost use Rattle.paths.specs.Joins.{normalize as normalize_of};
+ghost use Rattle.tree.specs.Meanings.{kind_of};
+ghost use Rattle.alias.specs.Answers.{AskedIf, asks, form_asks, held_request, made_of, new_request, request_text, text_made, told, within};
 ghost use Rattle.alias.specs.Labels.{formed};
-ghost use Rattle.alias.specs.Laws.{Lies-below-its-value};
-ghost use Rattle.alias.specs.Rewrites.{ahead, by-suffix, continued, form-rewrites, returns_to, rewritten, starred, tailed-normal, trimmed};
+ghost use Rattle.alias.specs.Laws.{LiesBelowItsValue};
+ghost use Rattle.alias.specs.Rewrites.{ahead, by_suffix, continued, form_rewrites, returns_to, rewritten, starred, tailed_normal, trimmed};
 ghost use Rattle.alias.specs.Forms.{behind};
 
 use crate::label::{AliasMatchKind, behind, goes_on};
@@ -26,7 +26,7 @@ pub enum NewRequest {
 impl NewRequest {
     /// The request, handed out of the settings or of the work text, whichever holds it.
     pub fn text<'a>(self, value: &'a [u8], work: &'a [u8]) -> &'a [u8]
-        ensures value_or_made_text { result.now ≡ request-text self value.now work.now }
+        ensures value_or_made_text { result.now ≡ request_text self value.now work.now }
     {
         match self {
             NewRequest::Value => value,
@@ -80,7 +80,7 @@ fn trim_start(tail: &[u8]) -> &[u8]
 
 // A value normalized; that is no longer than the value.
 fn normal(value: &Text<96>) -> Text<96>
-    ensures normal_value { bytes_of result ≡ normalize-of (bytes_of value.now) }
+    ensures normal_value { bytes_of result ≡ normalize_of (bytes_of value.now) }
 {
     let mut bytes = [0; 96];
     let len = normalize(value.as_bytes(), &mut bytes).unwrap();
@@ -90,7 +90,7 @@ fn normal(value: &Text<96>) -> Text<96>
 // The value with its first `*` replaced by the middle of a request; without a `*`, the value as written.
 fn replace_star(value: &[u8], middle: &[u8], work: &mut [u8]) -> Rewrite
     ensures first_star_replaced { result ≡ told (starred value.now middle.now) (length work.old) }
-    ensures made_text_in_front { work.new ≡ buffer-with (text-made (starred value.now middle.now)) work.old }
+    ensures made_text_in_front { work.new ≡ buffer_with (text_made (starred value.now middle.now)) work.old }
 {
     let star = position(value, b'*');
     if star == value.len() {
@@ -106,7 +106,7 @@ fn replace_star(value: &[u8], middle: &[u8], work: &mut [u8]) -> Rewrite
 // Three texts, one behind the other.
 fn write_around(before: &[u8], middle: &[u8], behind: &[u8], text: &mut [u8]) -> Option<usize>
     requires room { length text.old ≡ 255 }
-    ensures length_if_it_fits { result ≡ length-in (Some (before.now ++ (middle.now ++ behind.now))) (length text.old) }
+    ensures length_if_it_fits { result ≡ length_in (Some (before.now ++ (middle.now ++ behind.now))) (length text.old) }
     ensures text_in_front { text_in result text.new ≡ within (before.now ++ (middle.now ++ behind.now)) }
 {
     let len = append_text(text, 0, before)?;
@@ -116,7 +116,7 @@ fn write_around(before: &[u8], middle: &[u8], behind: &[u8], text: &mut [u8]) ->
 
 // The answer for a text that was written, or had no room.
 fn made(len: Option<usize>) -> Rewrite
-    ensures made_if_it_fits { result ≡ made-of len }
+    ensures made_if_it_fits { result ≡ made_of len }
 {
     match len {
         Some(len) => Rewrite::Again(NewRequest::Made(len)),
@@ -132,8 +132,8 @@ fn rewrite_wildcard(
     request: &[u8],
     work: &mut [u8],
 ) -> Rewrite
-    ensures rewritten_by_its_middle { result ≡ told (by-suffix value.now suffix.now (behind prefix.now request.now)) (length work.old) }
-    ensures made_text_in_front { work.new ≡ buffer-with (text-made (by-suffix value.now suffix.now (behind prefix.now request.now))) work.old }
+    ensures rewritten_by_its_middle { result ≡ told (by_suffix value.now suffix.now (behind prefix.now request.now)) (length work.old) }
+    ensures made_text_in_front { work.new ≡ buffer_with (text_made (by_suffix value.now suffix.now (behind prefix.now request.now))) work.old }
 {
     let Some(rest) = behind(prefix, request) else {
         return Rewrite::Skipped;
@@ -146,8 +146,8 @@ fn rewrite_wildcard(
 
 // The tail of a request joined to a normalized value; without a tail, the value as written.
 fn join_tail(normal: &[u8], tail: &[u8], work: &mut [u8]) -> Rewrite
-    ensures joined_behind_the_value { result ≡ told (tailed-normal normal.now tail.now) (length work.old) }
-    ensures made_text_in_front { work.new ≡ buffer-with (text-made (tailed-normal normal.now tail.now)) work.old }
+    ensures joined_behind_the_value { result ≡ told (tailed_normal normal.now tail.now) (length work.old) }
+    ensures made_text_in_front { work.new ≡ buffer_with (text_made (tailed_normal normal.now tail.now)) work.old }
 {
     if tail.is_empty() {
         return Rewrite::Again(NewRequest::Value);
@@ -164,10 +164,10 @@ fn rewrite_plain<T: FileTree>(
 ) -> Rewrite
     requires sound { T.FileTree.sound tree.old }
     ensures rewritten_by_its_tail { result ≡ told (continued (T.FileTree.meaning tree.old) (bytes_of value.now) tail.now) (length work.old) }
-    ensures made_text_in_front { work.new ≡ buffer-with (text-made (continued (T.FileTree.meaning tree.old) (bytes_of value.now) tail.now)) work.old }
+    ensures made_text_in_front { work.new ≡ buffer_with (text_made (continued (T.FileTree.meaning tree.old) (bytes_of value.now) tail.now)) work.old }
     ensures same_meaning { T.FileTree.meaning tree.new ≡ T.FileTree.meaning tree.old }
     ensures still_sound { T.FileTree.sound tree.new }
-    ensures asked_once_if_there_is_a_tail { Asked-if T.FileTree.steps (not (empty tail.now)) (kind-of (normalize-of (bytes_of value.now))) tree.old tree.new }
+    ensures asked_once_if_there_is_a_tail { AskedIf T.FileTree.steps (not (empty tail.now)) (kind_of (normalize_of (bytes_of value.now))) tree.old tree.new }
 {
     if tail.is_empty() {
         return Rewrite::Again(NewRequest::Value);
@@ -188,11 +188,11 @@ fn rewrite_by_form<T: FileTree>(
     work: &mut [u8],
 ) -> Rewrite
     requires sound { T.FileTree.sound tree.old }
-    ensures rewritten_by_the_form { result ≡ told (form-rewrites (T.FileTree.meaning tree.old) (formed kind.entry) (bytes_of value.now) request.now) (length work.old) }
-    ensures made_text_in_front { work.new ≡ buffer-with (text-made (form-rewrites (T.FileTree.meaning tree.old) (formed kind.entry) (bytes_of value.now) request.now)) work.old }
+    ensures rewritten_by_the_form { result ≡ told (form_rewrites (T.FileTree.meaning tree.old) (formed kind.entry) (bytes_of value.now) request.now) (length work.old) }
+    ensures made_text_in_front { work.new ≡ buffer_with (text_made (form_rewrites (T.FileTree.meaning tree.old) (formed kind.entry) (bytes_of value.now) request.now)) work.old }
     ensures same_meaning { T.FileTree.meaning tree.new ≡ T.FileTree.meaning tree.old }
     ensures still_sound { T.FileTree.sound tree.new }
-    ensures asked_once_if_a_plain_label_has_a_tail { Asked-if T.FileTree.steps (form-asks (formed kind.entry) request.now) (kind-of (normalize-of (bytes_of value.now))) tree.old tree.new }
+    ensures asked_once_if_a_plain_label_has_a_tail { AskedIf T.FileTree.steps (form_asks (formed kind.entry) request.now) (kind_of (normalize_of (bytes_of value.now))) tree.old tree.new }
 {
     match kind {
         AliasMatchKind::Exact(_) => Rewrite::Again(NewRequest::Value),
@@ -216,12 +216,12 @@ pub fn load_alias_value<T: FileTree>(
 ) -> Rewrite
     requires sound { T.FileTree.sound tree.old }
     ensures rewritten_by_definition { result ≡ told (rewritten (T.FileTree.meaning tree.old) label.now (bytes_of value.now) request.now) (length work.old) }
-    ensures made_text_in_front { work.new ≡ buffer-with (text-made (rewritten (T.FileTree.meaning tree.old) label.now (bytes_of value.now) request.now)) work.old }
-    ensures request_of_at_most_255_bytes { 255 ≤ length work.old → held-request result (bytes_of value.now) work.new ≡ new-request (bytes_of value.now) (rewritten (T.FileTree.meaning tree.old) label.now (bytes_of value.now) request.now) }
-    ensures below_a_clean_value_unless_the_tail_climbs { Lies-below-its-value (T.FileTree.meaning tree.old) label.now (bytes_of value.now) request.now }
+    ensures made_text_in_front { work.new ≡ buffer_with (text_made (rewritten (T.FileTree.meaning tree.old) label.now (bytes_of value.now) request.now)) work.old }
+    ensures request_of_at_most_255_bytes { 255 ≤ length work.old → held_request result (bytes_of value.now) work.new ≡ new_request (bytes_of value.now) (rewritten (T.FileTree.meaning tree.old) label.now (bytes_of value.now) request.now) }
+    ensures below_a_clean_value_unless_the_tail_climbs { LiesBelowItsValue (T.FileTree.meaning tree.old) label.now (bytes_of value.now) request.now }
     ensures same_meaning { T.FileTree.meaning tree.new ≡ T.FileTree.meaning tree.old }
     ensures still_sound { T.FileTree.sound tree.new }
-    ensures asked_once_if_a_plain_label_has_a_tail { Asked-if T.FileTree.steps (asks label.now (bytes_of value.now) request.now) (kind-of (normalize-of (bytes_of value.now))) tree.old tree.new }
+    ensures asked_once_if_a_plain_label_has_a_tail { AskedIf T.FileTree.steps (asks label.now (bytes_of value.now) request.now) (kind_of (normalize_of (bytes_of value.now))) tree.old tree.new }
 {
     if returns_to(value.as_bytes(), request) {
         return Rewrite::Skipped;

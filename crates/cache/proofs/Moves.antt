@@ -4,12 +4,12 @@ use Rattle.std.proofs.lemmas.List.{map-append, drop-map, take-append-drop, take-
 use Rattle.tree.specs.declared.answers.Kind.{Kind}
 use Rattle.cache.specs.declared.recent.Entry.{Entry}
 use Rattle.cache.specs.Held.{seen}
-use Rattle.cache.specs.Seen.{Seen, Placed, fresh, moved, recalled, remember, renewed, renewed-as, without}
+use Rattle.cache.specs.Seen.{Seen, Placed, fresh, moved, recalled, remember, renewed, renewed_as, without}
 use Rattle.texts.specs.Held.{bytes_of}
 use Rattle.texts.specs.Parts.{parts, same_parts}
 use Rattle.texts.specs.Texts.{Text}
 use Rattle.tree.specs.Meanings.{Path}
-use Rattle.cache.proofs.Paths.{same-means-equal}
+use Rattle.cache.proofs.Paths.{same_means_equal}
 
 -- the entry at i, as the list has it
 module _ (xs : List Entry) (n i : ℕ) (d : Entry) (low : i < n) (high : n ≤ length xs) where
@@ -21,14 +21,14 @@ module _ (xs : List Entry) (n i : ℕ) (d : Entry) (low : i < n) (high : n ≤ l
       let l : i < length (take n xs) = simp length-take (omega arith) in
       get_or-map seen (take n xs) i d (seen d) l ∙ ap seen (get_or-take n xs i d low)
 
-  pub drop-entry : drop i (map seen (take n xs)) ≡ seen (get_or xs i d) ∷ drop (i + 1) (map seen (take n xs))
-  drop-entry = drop_more (map seen (take n xs)) i (seen d) long ∙ ap (λ (e : Seen). e ∷ drop (i + 1) (map seen (take n xs))) entry_at
+  pub drop_entry : drop i (map seen (take n xs)) ≡ seen (get_or xs i d) ∷ drop (i + 1) (map seen (take n xs))
+  drop_entry = drop_more (map seen (take n xs)) i (seen d) long ∙ ap (λ (e : Seen). e ∷ drop (i + 1) (map seen (take n xs))) entry_at
 
-  pub take-entry : take (i + 1) (map seen (take n xs)) ≡ take i (map seen (take n xs)) ++ seen (get_or xs i d) ∷ []
-  take-entry = take_more (map seen (take n xs)) i (seen d) long ∙ ap (λ (e : Seen). take i (map seen (take n xs)) ++ e ∷ []) entry_at
+  pub take_entry : take (i + 1) (map seen (take n xs)) ≡ take i (map seen (take n xs)) ++ seen (get_or xs i d) ∷ []
+  take_entry = take_more (map seen (take n xs)) i (seen d) long ∙ ap (λ (e : Seen). take i (map seen (take n xs)) ++ e ∷ []) entry_at
 
-  pub entry-within : i < length (map seen (take n xs))
-  entry-within = long
+  pub entry_within : i < length (map seen (take n xs))
+  entry_within = long
 
 -- a search that has come to i, where e stands
 module _ (p : Path) (es : List Seen) (i : ℕ) (e : Seen) (here : drop i es ≡ e ∷ drop (i + 1) es) (inv : (recalled p (drop i es) ≡ recalled p es) × (without p es ≡ take i es ++ without p (drop i es))) where
@@ -44,7 +44,7 @@ module _ (p : Path) (es : List Seen) (i : ℕ) (e : Seen) (here : drop i es ≡ 
       let r : recalled p (drop i es) ≡ Some e.kind = ap (recalled p) here ∙ ap (λ (b : Bool). cond b (Some e.kind) (recalled p (drop (i + 1) es))) same in
       let w : without p (drop i es) ≡ drop (i + 1) es = ap (without p) here ∙ ap (λ (b : Bool). cond b (drop (i + 1) es) (e ∷ without p (drop (i + 1) es))) same in
       let one : drop (i + 1) es ≡ drop (suc i) es = ap (λ (n : ℕ). drop n es) (add-one i) in
-      let it : e ≡ fresh p e.kind = ap (λ (q : Path). fresh q e.kind) (same-means-equal e.path p same) in
+      let it : e ≡ fresh p e.kind = ap (λ (q : Path). fresh q e.kind) (same_means_equal e.path p same) in
       (within, (e.kind, sym inv.0 ∙ r, here ∙ ap (λ (x : Seen). x ∷ drop (i + 1) es) it ∙ ap (λ (zs : List Seen). fresh p e.kind ∷ zs) one, inv.1 ∙ ap (λ (zs : List Seen). take i es ++ zs) (w ∙ one)))
 
 -- a search that has come to i has met nothing
@@ -52,28 +52,28 @@ abbrev pub Searched : Path → List Seen → ℕ → Type 0
 Searched p es i = (recalled p (drop i es) ≡ recalled p es) × (without p es ≡ take i es ++ without p (drop i es))
 
 module _ (p : Path) (xs : List Entry) (n i : ℕ) (low : i < n) (high : n ≤ length xs) (inv : Searched p (map seen (take n xs)) i) (d : Entry) (text : Text) (is : text ≡ bytes_of (get_or xs i d).path) where
-  pub entry-passed : same_parts (parts text) p ≡ false → Searched p (map seen (take n xs)) (i + 1)
-  entry-passed other =
-      passed p (map seen (take n xs)) i (seen (get_or xs i d)) (drop-entry xs n i d low high) inv (take-entry xs n i d low high)
+  pub entry_passed : same_parts (parts text) p ≡ false → Searched p (map seen (take n xs)) (i + 1)
+  entry_passed other =
+      passed p (map seen (take n xs)) i (seen (get_or xs i d)) (drop_entry xs n i d low high) inv (take_entry xs n i d low high)
       (ap (λ (t : Text). same_parts (parts t) p) (sym is) ∙ other)
 
-  pub entry-met : same_parts (parts text) p ≡ true → Placed p (map seen (take n xs)) (Some i)
-  entry-met same =
-      met p (map seen (take n xs)) i (seen (get_or xs i d)) (drop-entry xs n i d low high) inv (entry-within xs n i d low high)
+  pub entry_met : same_parts (parts text) p ≡ true → Placed p (map seen (take n xs)) (Some i)
+  entry_met same =
+      met p (map seen (take n xs)) i (seen (get_or xs i d)) (drop_entry xs n i d low high) inv (entry_within xs n i d low high)
       (ap (λ (t : Text). same_parts (parts t) p) (sym is) ∙ same)
 
 -- a search that has come to the end
-pub searched-all : (p : Path) (es : List Seen) (i : ℕ) → length es ≤ i → Searched p es i → recalled p es ≡ None
-searched-all p es i end inv = sym inv.0 ∙ ap (recalled p) (drop_all i es end)
+pub searched_all : (p : Path) (es : List Seen) (i : ℕ) → length es ≤ i → Searched p es i → recalled p es ≡ None
+searched_all p es i end inv = sym inv.0 ∙ ap (recalled p) (drop_all i es end)
 
 -- a path that is not held is nowhere to be left out
 absent : (b : Bool) (k : Kind) (r : Option Kind) (e : Seen) (w es : List Seen) → cond b (Some k) r ≡ None → (r ≡ None → w ≡ es) → cond b es (e ∷ w) ≡ e ∷ es
 absent true k r e w es h f = let z : ◌≡◌ {A = ℕ} 0 1 = cc in absurd (omega arith)
 absent false k r e w es h f = ap (λ (zs : List Seen). e ∷ zs) (f h)
 
-pub without-absent : (p : Path) (es : List Seen) → recalled p es ≡ None → without p es ≡ es
-without-absent p [] h = refl
-without-absent p (e ∷ es) h = absent (same_parts e.path p) e.kind (recalled p es) e (without p es) es h (without-absent p es)
+pub without_absent : (p : Path) (es : List Seen) → recalled p es ≡ None → without p es ≡ es
+without_absent p [] h = refl
+without_absent p (e ∷ es) h = absent (same_parts e.path p) e.kind (recalled p es) e (without p es) es h (without_absent p es)
 
 module _ {X : Type 0} where
   onto : (ys zs : List X) (e : X) → 0 < length ys → set (take 1 ys ++ zs) 0 e ≡ e ∷ zs
@@ -116,11 +116,11 @@ remembered p k xs zs n m e high fits way moves is none =
     ∙ ap (λ (l : ℕ). map seen (take l (set (moved xs j) 0 e))) one
     ∙ ap (map seen) (put_front xs j e low)
     ∙ ap (λ (x : Seen). x ∷ map seen (take j xs)) is
-    ∙ ap (λ (ys : List Seen). fresh p k ∷ ys) (latest xs n j high ways ∙ ap (take 63) (sym (without-absent p (map seen (take n xs)) none)))
+    ∙ ap (λ (ys : List Seen). fresh p k ∷ ys) (latest xs n j high ways ∙ ap (take 63) (sym (without_absent p (map seen (take n xs)) none)))
 
 -- what is moved within the first n stays there
-moved-append : {X : Type 0} (xs ys : List X) (i : ℕ) → i < length xs → moved (xs ++ ys) i ≡ moved xs i ++ ys
-moved-append xs ys i low =
+moved_append : {X : Type 0} (xs ys : List X) (i : ℕ) → i < length xs → moved (xs ++ ys) i ≡ moved xs i ++ ys
+moved_append xs ys i low =
     let some : 1 ≤ length (drop i xs) = simp length-drop (omega arith) in
     let a : take 1 (drop i (xs ++ ys)) ≡ take 1 (drop i xs) = ap (take 1) (drop-append-le i xs ys (omega arith)) ∙ take-append-le 1 (drop i xs) ys some in
     let b : take i (xs ++ ys) ≡ take i xs = take-append-le i xs ys (omega arith) in
@@ -130,15 +130,15 @@ moved-append xs ys i low =
 length_moved : {X : Type 0} (xs : List X) (i : ℕ) → i < length xs → length (moved xs i) ≡ length xs
 length_moved xs i low = simp (length-append, length-take, length-drop) (omega arith)
 
-take-moved : {X : Type 0} (xs : List X) (n i : ℕ) → i < n → n ≤ length xs → take n (moved xs i) ≡ moved (take n xs) i
-take-moved xs n i low high =
+take_moved : {X : Type 0} (xs : List X) (n i : ℕ) → i < n → n ≤ length xs → take n (moved xs i) ≡ moved (take n xs) i
+take_moved xs n i low high =
     let len : length (take n xs) ≡ n = length-take-le n xs high in
     ap (λ (ys : List _). take n (moved ys i)) (sym (take-append-drop n xs))
-    ∙ ap (take n) (moved-append (take n xs) (drop n xs) i (omega arith))
+    ∙ ap (take n) (moved_append (take n xs) (drop n xs) i (omega arith))
     ∙ take_at (moved (take n xs) i) (drop n xs) n (length_moved (take n xs) i (omega arith) ∙ len)
 
-map-moved : (xs : List Entry) (i : ℕ) → map seen (moved xs i) ≡ moved (map seen xs) i
-map-moved xs i = simp (map-append, take-map, drop-map)
+map_moved : (xs : List Entry) (i : ℕ) → map seen (moved xs i) ≡ moved (map seen xs) i
+map_moved xs i = simp (map-append, take-map, drop-map)
 
 -- an entry that is met goes to the front
 module _ (p : Path) (xs zs : List Entry) (n i : ℕ) (high : n ≤ length xs) (fits : n ≤ 64) (at : Placed p (map seen (take n xs)) (Some i)) (moves : zs ≡ moved xs i) where
@@ -151,14 +151,14 @@ module _ (p : Path) (xs zs : List Entry) (n i : ℕ) (high : n ≤ length xs) (f
   front : map seen (take n zs) ≡ fresh p at.1.0 ∷ without p es
   front =
       ap (λ (ys : List Entry). map seen (take n ys)) moves
-      ∙ ap (map seen) (take-moved xs n i low high)
-      ∙ map-moved (take n xs) i
+      ∙ ap (map seen) (take_moved xs n i low high)
+      ∙ map_moved (take n xs) i
       ∙ ap (λ (ys : List Seen). take 1 ys ++ (take i es ++ drop (suc i) es)) at.1.2
       ∙ ap (λ (ys : List Seen). fresh p at.1.0 ∷ ys) (sym at.1.3)
 
-  pub recalled-kind : (d : Entry) → Some (get_or xs i d).kind ≡ recalled p es
-  recalled-kind d =
-      let same : seen (get_or xs i d) ∷ drop (i + 1) es ≡ fresh p at.1.0 ∷ drop (suc i) es = sym (drop-entry xs n i d low high) ∙ at.1.2 in
+  pub recalled_kind : (d : Entry) → Some (get_or xs i d).kind ≡ recalled p es
+  recalled_kind d =
+      let same : seen (get_or xs i d) ∷ drop (i + 1) es ≡ fresh p at.1.0 ∷ drop (suc i) es = sym (drop_entry xs n i d low high) ∙ at.1.2 in
       let f : seen (get_or xs i d) ≡ fresh p at.1.0 = cc in
       ap (λ (x : Seen). Some x.kind) f ∙ sym at.1.1
 
@@ -168,8 +168,8 @@ module _ (p : Path) (xs zs : List Entry) (n i : ℕ) (high : n ≤ length xs) (f
       let len : length es ≡ n = simp (length-map, length-take) (omega arith) in
       subst (λ (ys : List Seen). length ys ≤ 63) (sym at.1.3) (simp (length-append, length-take, length-drop) (omega arith))
 
-  pub recalled-held : map seen (take n zs) ≡ renewed p es
-  recalled-held =
+  pub recalled_held : map seen (take n zs) ≡ renewed p es
+  recalled_held =
       front
       ∙ ap (λ (ys : List Seen). fresh p at.1.0 ∷ ys) (sym (take_all 63 (without p es) few))
-      ∙ ap (renewed-as p es) (sym at.1.1)
+      ∙ ap (renewed_as p es) (sym at.1.1)

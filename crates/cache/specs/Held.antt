@@ -4,10 +4,10 @@ use Rattle.texts.specs.Held.{bytes_of}
 use Rattle.texts.specs.Parts.{parts}
 use Rattle.texts.specs.Texts.{Text}
 use Rattle.tree.specs.declared.answers.Kind.{Kind}
-use Rattle.tree.specs.Meanings.{Path, Question, kind-of, manifest-of, lookup-of, forgetting}
+use Rattle.tree.specs.Meanings.{Path, Question, kind_of, manifest_of, lookup_of, forgetting}
 use Rattle.cache.specs.declared.recent.Entry.{Entry}
 use Rattle.cache.specs.declared.recent.Recent.{Recent}
-use Rattle.cache.specs.Seen.{Seen, fresh, holds_text, remember-text}
+use Rattle.cache.specs.Seen.{Seen, fresh, holds_text, remember_text}
 
 -- what an entry holds
 abbrev pub seen : Entry → Seen
@@ -24,13 +24,13 @@ Agrees tree (e ∷ es) = (e.kind ≡ tree e.path) × Agrees tree es
 
 -- a kind question: what is held before and after, and whether the host below is left as it was or was asked
 pub record Asked (tree : Path → Kind) (t : Text) (before after : List Seen) (Left Passed : Type 0) : Type 0 where
-  pub now-held : after ≡ remember-text tree t before
-  pub if-held : holds_text t before ≡ true → Left
-  pub if-not : holds_text t before ≡ false → Passed
+  pub now_held : after ≡ remember_text tree t before
+  pub if_held : holds_text t before ≡ true → Left
+  pub if_not : holds_text t before ≡ false → Passed
 
 -- any question: the others leave what is held and go to the host below, and to forget empties it too
 abbrev pub Stepped : (Path → Kind) → List Seen → List Seen → Type 0 → Type 0 → Question → Type 0
-Stepped tree before after Left Passed (kind-of t) = Asked tree t before after Left Passed
-Stepped tree before after Left Passed (manifest-of t) = (after ≡ before) × Passed
-Stepped tree before after Left Passed (lookup-of way request directory) = (after ≡ before) × Passed
+Stepped tree before after Left Passed (kind_of t) = Asked tree t before after Left Passed
+Stepped tree before after Left Passed (manifest_of t) = (after ≡ before) × Passed
+Stepped tree before after Left Passed (lookup_of way request directory) = (after ≡ before) × Passed
 Stepped tree before after Left Passed forgetting = (after ≡ []) × Passed

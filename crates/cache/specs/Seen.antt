@@ -41,16 +41,16 @@ abbrev pub remember : Path → Kind → List Seen → List Seen
 remember p k es = take room (fresh p k ∷ without p es)
 
 -- the same for a text: one of more than 255 bytes leaves what is held
-abbrev pub remember-text : (Path → Kind) → Text → List Seen → List Seen
-remember-text tree t es = cond (fits t) (remember (parts t) (tree (parts t)) es) es
+abbrev pub remember_text : (Path → Kind) → Text → List Seen → List Seen
+remember_text tree t es = cond (fits t) (remember (parts t) (tree (parts t)) es) es
 
 -- a path that is held becomes the latest; any other leaves what is held
-abbrev pub renewed-as : Path → List Seen → Option Kind → List Seen
-renewed-as p es (Some k) = remember p k es
-renewed-as p es None = es
+abbrev pub renewed_as : Path → List Seen → Option Kind → List Seen
+renewed_as p es (Some k) = remember p k es
+renewed_as p es None = es
 
 abbrev pub renewed : Path → List Seen → List Seen
-renewed p es = renewed-as p es (recalled p es)
+renewed p es = renewed_as p es (recalled p es)
 
 -- where a path is held
 abbrev pub Placed : Path → List Seen → Option ℕ → Type 0

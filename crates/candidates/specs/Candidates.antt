@@ -12,7 +12,7 @@ use Rattle.settings.specs.Tables.{Tables, enforced}
 -- a text that is tested, or why nothing more is: the manifest of this path is broken (30), a text would pass 255 bytes (28)
 pub data Candidate : Type 0 where
   try : Text → Candidate
-  broken-at : Text → Candidate
+  broken_at : Text → Candidate
   overlong : Candidate
 
 -- a text as a candidate, if it fits
@@ -20,17 +20,17 @@ abbrev pub formed : Text → Candidate
 formed t = cond (fits t) (try t) overlong
 
 -- a main text as it is joined: behind `./` if it is empty or absolute
-abbrev pub main-text : Text → Text
-main-text m = cond (empty m || begins SLASH m) (DOT ∷ SLASH ∷ m) m
+abbrev pub main_text : Text → Text
+main_text m = cond (empty m || begins SLASH m) (DOT ∷ SLASH ∷ m) m
 
 -- a request that asks for what is in a directory: it ends in a slash or is `.`; `..` does not count
 abbrev pub inward : Text → Bool
 inward r = ends SLASH r || bytes_eq r here
 
-abbrev pub is-directory : Kind → Bool
-is-directory Nothing = false
-is-directory File = false
-is-directory Directory = true
+abbrev pub is_directory : Kind → Bool
+is_directory Nothing = false
+is_directory File = false
+is_directory Directory = true
 
 -- a path with each extension
 abbrev pub extended : Text → List Text → List Candidate
@@ -52,20 +52,20 @@ module _ (t : Tables) (fully : Bool) where
   indexes p = cond fully [] (indexed p t.extensions t.main_files)
 
   -- each main text of the manifest, joined to the path: as a file, and its index candidates; at last those of the path
-  abbrev pub main-candidates : Text → List Text → List Candidate
-  main-candidates p [] = indexes p
-  main-candidates p (m ∷ ms) =
-      cond (joins p (main-text m)) (files (join p (main-text m)) ++ (indexes (join p (main-text m)) ++ main-candidates p ms)) (overlong ∷ [])
+  abbrev pub main_candidates : Text → List Text → List Candidate
+  main_candidates p [] = indexes p
+  main_candidates p (m ∷ ms) =
+      cond (joins p (main_text m)) (files (join p (main_text m)) ++ (indexes (join p (main_text m)) ++ main_candidates p ms)) (overlong ∷ [])
 
-  abbrev pub manifest-candidates : Text → Noted → List Candidate
-  manifest-candidates p unnoted = indexes p
-  manifest-candidates p unreadable = broken-at p ∷ []
-  manifest-candidates p (noted ms) = main-candidates p ms
+  abbrev pub manifest_candidates : Text → Noted → List Candidate
+  manifest_candidates p unnoted = indexes p
+  manifest_candidates p unreadable = broken_at p ∷ []
+  manifest_candidates p (noted ms) = main_candidates p ms
 
   -- what a path offers as a directory, if it is one
-  abbrev pub directory-candidates : Meaning → Text → List Candidate
-  directory-candidates m p = cond (is-directory (m.kind (parts p))) (manifest-candidates p (m.manifest (parts p))) []
+  abbrev pub directory_candidates : Meaning → Text → List Candidate
+  directory_candidates m p = cond (is_directory (m.kind (parts p))) (manifest_candidates p (m.manifest (parts p))) []
 
   -- all candidates of a path that is looked for, of a request that asks for what is in a directory, or not
   unfoldable pub candidates : Meaning → Bool → Text → List Candidate
-  candidates m inside p = cond inside [] (files p) ++ directory-candidates m p
+  candidates m inside p = cond inside [] (files p) ++ directory_candidates m p

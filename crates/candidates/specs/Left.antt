@@ -8,7 +8,7 @@ use Rattle.settings.specs.Tables.{Tables}
 use Rattle.candidates.specs.declared.walk.Stage.{Stage}
 use Rattle.candidates.specs.declared.walk.Stage.TheVariants as stage
 use Rattle.candidates.specs.declared.walk.Walk.{Walk}
-use Rattle.candidates.specs.Candidates.{Candidate, directory-candidates, files, indexes, main-candidates, main-text, overlong}
+use Rattle.candidates.specs.Candidates.{Candidate, directory_candidates, files, indexes, main_candidates, main_text, overlong}
 
 -- all candidates were formed
 abbrev pub ended : Stage → Bool
@@ -30,27 +30,27 @@ rank stage.Done = 0
 
 module _ (t : Tables) (fully : Bool) (p : Text) where
   -- the candidates of the first of the main texts from a place on, and of the later ones
-  abbrev pub main-left : List Text → ℕ → List Candidate
-  main-left [] i = indexes t fully p
-  main-left (m ∷ ms) i =
-      cond (joins p (main-text m)) (drop i (files t fully (join p (main-text m))) ++ (indexes t fully (join p (main-text m)) ++ main-candidates t fully p ms)) (overlong ∷ [])
+  abbrev pub main_left : List Text → ℕ → List Candidate
+  main_left [] i = indexes t fully p
+  main_left (m ∷ ms) i =
+      cond (joins p (main_text m)) (drop i (files t fully (join p (main_text m))) ++ (indexes t fully (join p (main_text m)) ++ main_candidates t fully p ms)) (overlong ∷ [])
 
-  abbrev pub main-index-left : List Text → ℕ → List Candidate
-  main-index-left [] i = indexes t fully p
-  main-index-left (m ∷ ms) i =
-      cond (joins p (main-text m)) (drop i (indexes t fully (join p (main-text m))) ++ main-candidates t fully p ms) (overlong ∷ [])
+  abbrev pub main_index_left : List Text → ℕ → List Candidate
+  main_index_left [] i = indexes t fully p
+  main_index_left (m ∷ ms) i =
+      cond (joins p (main_text m)) (drop i (indexes t fully (join p (main_text m))) ++ main_candidates t fully p ms) (overlong ∷ [])
 
-  abbrev pub stage-left : Meaning → Stage → ℕ → List Candidate
-  stage-left m stage.File i = drop i (files t fully p) ++ directory-candidates t fully m p
-  stage-left m stage.Directory i = directory-candidates t fully m p
-  stage-left m (stage.Main k) i = main-left (drop k (mains (m.manifest (parts p)))) i
-  stage-left m (stage.MainIndex k) i = main-index-left (drop k (mains (m.manifest (parts p)))) i
-  stage-left m stage.Index i = drop i (indexes t fully p)
-  stage-left m stage.Done i = []
+  abbrev pub stage_left : Meaning → Stage → ℕ → List Candidate
+  stage_left m stage.File i = drop i (files t fully p) ++ directory_candidates t fully m p
+  stage_left m stage.Directory i = directory_candidates t fully m p
+  stage_left m (stage.Main k) i = main_left (drop k (mains (m.manifest (parts p)))) i
+  stage_left m (stage.MainIndex k) i = main_index_left (drop k (mains (m.manifest (parts p)))) i
+  stage_left m stage.Index i = drop i (indexes t fully p)
+  stage_left m stage.Done i = []
 
   -- the candidates that are left
   abbrev pub left : Meaning → Walk → List Candidate
-  left m w = stage-left m w.stage w.place
+  left m w = stage_left m w.stage w.place
 
 -- one candidate is taken from the front of a list; none only if the list is empty
 abbrev pub Taken : List Candidate → Option Candidate → List Candidate → Type 0

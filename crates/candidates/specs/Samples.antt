@@ -8,7 +8,7 @@ use Rattle.tree.specs.Meanings.{Meaning, Noted, missing, noted, unnoted, unreada
 use Rattle.settings.specs.declared.enforcement.EnforceExtension.{EnforceExtension}
 use Rattle.settings.specs.declared.enforcement.EnforceExtension.TheVariants.{Auto, Enabled}
 use Rattle.settings.specs.Tables.{Tables}
-use Rattle.candidates.specs.Candidates.{Candidate, broken-at, candidates, inward, try}
+use Rattle.candidates.specs.Candidates.{Candidate, broken_at, candidates, inward, try}
 
 -- settings with these extensions and main files
 abbrev pub set : List Text → List Text → EnforceExtension → Tables
@@ -51,11 +51,11 @@ samples =
     ∷ sample js true (one (codes "/lib/a") unnoted) (codes "./a") (codes "/lib/a") (tried (codes "/lib/a" ∷ []))
     ∷ sample (set (codes ".js" ∷ [] ∷ []) (codes "i" ∷ codes "j" ∷ []) Auto) false (one (codes "/a") unnoted) (codes "/a") (codes "/a") (tried (codes "/a.js" ∷ codes "/a" ∷ codes "/a/i.js" ∷ codes "/a/i" ∷ codes "/a/j.js" ∷ codes "/a/j" ∷ []))
     ∷ sample (set [] (codes "index" ∷ []) Enabled) false (one (codes "/a") unnoted) (codes "/a") (codes "/a") []
-    ∷ sample js false (one (codes "/a") unreadable) (codes "/a/") (codes "/a") (broken-at (codes "/a") ∷ [])
+    ∷ sample js false (one (codes "/a") unreadable) (codes "/a/") (codes "/a") (broken_at (codes "/a") ∷ [])
     ∷ sample js false (one (codes "/a") (noted (codes "m/" ∷ [] ∷ []))) (codes "/a/") (codes "/a") (tried (codes "/a/m" ∷ codes "/a/m.js" ∷ codes "/a/m/index.js" ∷ codes "/a" ∷ codes "/a.js" ∷ codes "/a/index.js" ∷ codes "/a/index.js" ∷ []))
     ∷ sample js true (one (codes "/a") (noted (codes "/x" ∷ codes "../y" ∷ []))) (codes "/a") (codes "/a") (tried (codes "/a" ∷ codes "/a/x" ∷ codes "/y" ∷ []))
     ∷ []
 
 -- each request has these candidates
-abbrev pub Each-sample-holds : Type 0
-Each-sample-holds = AllByRecursion (λ s. candidates s.tables s.fully s.tree (inward s.request) s.path ≡ s.all) samples
+abbrev pub EachSampleHolds : Type 0
+EachSampleHolds = AllByRecursion (λ s. candidates s.tables s.fully s.tree (inward s.request) s.path ≡ s.all) samples

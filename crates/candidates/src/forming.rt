@@ -1,7 +1,7 @@
 // Forming the text of a candidate in the caller's buffer.
 ghost use Rattle.std.specs.Prelude.{◌≡◌, ◌≤◌, ◌++◌, Some, length, take};
-ghost use Rattle.texts.specs.Texts.{Text, fronted, length-in, text_in};
-ghost use Rattle.candidates.specs.Answers.{said, within, written-length};
+ghost use Rattle.texts.specs.Texts.{Text, fronted, length_in, text_in};
+ghost use Rattle.candidates.specs.Answers.{said, within, written_length};
 ghost use Rattle.candidates.specs.Candidates.{formed};
 
 use texts::{MAX_LEN, append_text, copy_text};
@@ -22,7 +22,7 @@ fn hand_out(text: &[u8], out: &mut [u8]) -> Candidate
     requires at_most_255_bytes { length text.now ≤ 255 }
     requires room_for_a_text { 255 ≤ length out.old }
     ensures candidate_of_the_text { (p : Text) → said p out.new result ≡ formed text.now }
-    ensures only_its_text_is_written { out.new ≡ fronted (take (written-length (Some result)) out.new) out.old }
+    ensures only_its_text_is_written { out.new ≡ fronted (take (written_length (Some result)) out.new) out.old }
 {
     match copy_text(text, out) {
         Some(len) => Candidate::Try(len),
@@ -33,7 +33,7 @@ fn hand_out(text: &[u8], out: &mut [u8]) -> Candidate
 // Three texts, one behind the other.
 fn write_three(text: &mut [u8], path: &[u8], name: &[u8], extension: &[u8]) -> Option<usize>
     requires room { length text.old ≡ 255 }
-    ensures length_if_it_fits { result ≡ length-in (Some ((path.now ++ name.now) ++ extension.now)) (length text.old) }
+    ensures length_if_it_fits { result ≡ length_in (Some ((path.now ++ name.now) ++ extension.now)) (length text.old) }
     ensures text_in_front { text_in result text.new ≡ within ((path.now ++ name.now) ++ extension.now) }
 {
     let len = append_text(text, 0, path)?;
@@ -50,7 +50,7 @@ pub(crate) fn add_name_and_extension(
 ) -> Candidate
     requires room_for_a_text { 255 ≤ length out.old }
     ensures name_and_extension_behind_the_path { (p : Text) → said p out.new result ≡ formed ((path.now ++ name.now) ++ extension.now) }
-    ensures only_its_text_is_written { out.new ≡ fronted (take (written-length (Some result)) out.new) out.old }
+    ensures only_its_text_is_written { out.new ≡ fronted (take (written_length (Some result)) out.new) out.old }
 {
     let mut text = [0; MAX_LEN];
     match write_three(&mut text, path, name, extension) {

@@ -1,11 +1,11 @@
 // The candidates of a path as a file, and those of its main files, each by its place.
 ghost use Rattle.std.specs.Prelude.{◌≡◌, ◌*◌, ◌<◌, ◌≤◌, ◌∷◌, ◌++◌, IsSome, length, map, take};
 ghost use Rattle.std.specs.Option.{option_map};
-ghost use Rattle.stack.specs.Items.{item-at};
+ghost use Rattle.stack.specs.Items.{item_at};
 ghost use Rattle.texts.specs.Held.{bytes_of};
 ghost use Rattle.texts.specs.Texts.{Text as Path, fronted};
 ghost use Rattle.settings.specs.Meant.{tables};
-ghost use Rattle.candidates.specs.Answers.{said, written-length};
+ghost use Rattle.candidates.specs.Answers.{said, written_length};
 ghost use Rattle.candidates.specs.Candidates.{extended, files, indexed, indexes};
 
 use crate::forming::{Candidate, add_name_and_extension};
@@ -22,8 +22,8 @@ fn extended_candidate(
 ) -> Option<Candidate>
     requires room_for_a_text { 255 ≤ length out.old }
     ensures place_among_the_extensions { IsSome result → place < length extensions.now }
-    ensures extension_at_the_place { (of : Path) → option_map (said of out.new) result ≡ item-at (extended (path.now ++ name.now) (map bytes_of extensions.now)) place }
-    ensures only_its_text_is_written { out.new ≡ fronted (take (written-length result) out.new) out.old }
+    ensures extension_at_the_place { (of : Path) → option_map (said of out.new) result ≡ item_at (extended (path.now ++ name.now) (map bytes_of extensions.now)) place }
+    ensures only_its_text_is_written { out.new ≡ fronted (take (written_length result) out.new) out.old }
 {
     for i in 0..extensions.len() {
         if i == place {
@@ -53,8 +53,8 @@ fn named_candidate(
     requires room_for_a_text { 255 ≤ length out.old }
     requires few { length extensions.now ≤ 8 }
     ensures place_within_the_table { IsSome result → place < 8 * length names.now }
-    ensures main_file_at_the_place { (of : Path) → option_map (said of out.new) result ≡ item-at (indexed path.now (map bytes_of extensions.now) (map bytes_of names.now)) place }
-    ensures only_its_text_is_written { out.new ≡ fronted (take (written-length result) out.new) out.old }
+    ensures main_file_at_the_place { (of : Path) → option_map (said of out.new) result ≡ item_at (indexed path.now (map bytes_of extensions.now) (map bytes_of names.now)) place }
+    ensures only_its_text_is_written { out.new ≡ fronted (take (written_length result) out.new) out.old }
 {
     let mut left = place;
     for i in 0..names.len() {
@@ -77,8 +77,8 @@ pub(crate) fn file_candidate(
 ) -> Option<Candidate>
     requires room_for_a_text { 255 ≤ length out.old }
     ensures at_most_9_files { IsSome result → place < 9 }
-    ensures file_at_the_place { (of : Path) → option_map (said of out.new) result ≡ item-at (files (tables settings.now) fully_specified path.now) place }
-    ensures only_its_text_is_written { out.new ≡ fronted (take (written-length result) out.new) out.old }
+    ensures file_at_the_place { (of : Path) → option_map (said of out.new) result ≡ item_at (files (tables settings.now) fully_specified path.now) place }
+    ensures only_its_text_is_written { out.new ≡ fronted (take (written_length result) out.new) out.old }
 {
     let mut left = place;
     if !settings.enforces_extension() {
@@ -103,8 +103,8 @@ pub(crate) fn index_candidate(
 ) -> Option<Candidate>
     requires room_for_a_text { 255 ≤ length out.old }
     ensures at_most_32_indexes { IsSome result → place < 32 }
-    ensures index_at_the_place { (of : Path) → option_map (said of out.new) result ≡ item-at (indexes (tables settings.now) fully_specified path.now) place }
-    ensures only_its_text_is_written { out.new ≡ fronted (take (written-length result) out.new) out.old }
+    ensures index_at_the_place { (of : Path) → option_map (said of out.new) result ≡ item_at (indexes (tables settings.now) fully_specified path.now) place }
+    ensures only_its_text_is_written { out.new ≡ fronted (take (written_length result) out.new) out.old }
 {
     if fully_specified {
         return None;

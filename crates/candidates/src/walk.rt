@@ -8,9 +8,9 @@ ghost use Rattle.paths.specs.Joins.{joined};
 ghost use Rattle.tree.specs.Meanings.{Meaning};
 ghost use Rattle.settings.specs.Meant.{tables};
 ghost use Rattle.settings.specs.Tables.{Tables};
-ghost use Rattle.candidates.specs.Answers.{said, written-length};
-ghost use Rattle.candidates.specs.Candidates.{candidates, main-text};
-ghost use Rattle.candidates.specs.Left.{Stepped, Taken, ended, left, rank, stage-left};
+ghost use Rattle.candidates.specs.Answers.{said, written_length};
+ghost use Rattle.candidates.specs.Candidates.{candidates, main_text};
+ghost use Rattle.candidates.specs.Left.{Stepped, Taken, ended, left, rank, stage_left};
 
 use crate::forming::Candidate;
 use crate::places::{file_candidate, index_candidate};
@@ -45,7 +45,7 @@ pub struct Walk {
 // A main text as it is joined: behind `./` if it is empty or absolute.
 fn as_joined(main: &[u8]) -> Text<34>
     requires short_main_text { length main.now ≤ 32 }
-    ensures behind_a_dot_if_not_relative { bytes_of result ≡ main-text main.now }
+    ensures behind_a_dot_if_not_relative { bytes_of result ≡ main_text main.now }
 {
     match main {
         [] | [b'/', ..] => {
@@ -62,7 +62,7 @@ fn as_joined(main: &[u8]) -> Text<34>
 fn join_main(path: &[u8], main: &[u8], text: &mut [u8]) -> Option<usize>
     requires short_main_text { length main.now ≤ 32 }
     requires room { length text.old ≡ 255 }
-    ensures joined_to_the_path { text_in result text.new ≡ joined path.now (main-text main.now) }
+    ensures joined_to_the_path { text_in result text.new ≡ joined path.now (main_text main.now) }
     ensures at_most_255_bytes { IfSome result (λ n. n ≤ 255) }
 {
     normalize_with(path, as_joined(main).as_bytes(), text)
@@ -95,9 +95,9 @@ fn step_file(
     out: &mut [u8],
 ) -> (Option<Candidate>, Walk)
     requires room_for_a_text { 255 ≤ length out.old }
-    ensures next_or_moved { (m : Meaning) → Stepped (stage-left (tables settings.now) fully_specified path.now m Stage.File place) (option_map (said path.now out.new) result.0) (left (tables settings.now) fully_specified path.now m result.1) }
+    ensures next_or_moved { (m : Meaning) → Stepped (stage_left (tables settings.now) fully_specified path.now m Stage.File place) (option_map (said path.now out.new) result.0) (left (tables settings.now) fully_specified path.now m result.1) }
     ensures nearer_to_the_end { (rank result.1.stage ≤ rank Stage.File) × (result.0 ≡ None → rank result.1.stage < rank Stage.File) }
-    ensures only_its_text_is_written { out.new ≡ fronted (take (written-length result.0) out.new) out.old }
+    ensures only_its_text_is_written { out.new ≡ fronted (take (written_length result.0) out.new) out.old }
 {
     match file_candidate(settings, fully_specified, path, place, out) {
         Some(candidate) => {
@@ -118,9 +118,9 @@ fn step_index(
     out: &mut [u8],
 ) -> (Option<Candidate>, Walk)
     requires room_for_a_text { 255 ≤ length out.old }
-    ensures next_or_moved { (m : Meaning) → Stepped (stage-left (tables settings.now) fully_specified path.now m Stage.Index place) (option_map (said path.now out.new) result.0) (left (tables settings.now) fully_specified path.now m result.1) }
+    ensures next_or_moved { (m : Meaning) → Stepped (stage_left (tables settings.now) fully_specified path.now m Stage.Index place) (option_map (said path.now out.new) result.0) (left (tables settings.now) fully_specified path.now m result.1) }
     ensures nearer_to_the_end { (rank result.1.stage ≤ rank Stage.Index) × (result.0 ≡ None → rank result.1.stage < rank Stage.Index) }
-    ensures only_its_text_is_written { out.new ≡ fronted (take (written-length result.0) out.new) out.old }
+    ensures only_its_text_is_written { out.new ≡ fronted (take (written_length result.0) out.new) out.old }
 {
     match index_candidate(settings, fully_specified, path, place, out) {
         Some(candidate) => {
@@ -135,9 +135,9 @@ fn step_index(
 // Whether the path is a directory, and its manifest; each is asked once.
 fn step_directory<H: Host>(host: &mut H, path: &[u8]) -> (Option<Candidate>, Walk)
     requires sound { H.FileTree.sound host.old }
-    ensures next_or_moved { (t : Tables) (fully : Bool) (out : List ℕ) → Stepped (stage-left t fully path.now (H.FileTree.meaning host.old) Stage.Directory 0) (option_map (said path.now out) result.0) (left t fully path.now (H.FileTree.meaning host.old) result.1) }
+    ensures next_or_moved { (t : Tables) (fully : Bool) (out : List ℕ) → Stepped (stage_left t fully path.now (H.FileTree.meaning host.old) Stage.Directory 0) (option_map (said path.now out) result.0) (left t fully path.now (H.FileTree.meaning host.old) result.1) }
     ensures nearer_to_the_end { (rank result.1.stage ≤ rank Stage.Directory) × (result.0 ≡ None → rank result.1.stage < rank Stage.Directory) }
-    ensures nothing_to_write { written-length result.0 ≡ 0 }
+    ensures nothing_to_write { written_length result.0 ≡ 0 }
     ensures same_meaning { H.FileTree.meaning host.new ≡ H.FileTree.meaning host.old }
     ensures still_sound { H.FileTree.sound host.new }
 {
@@ -163,9 +163,9 @@ fn step_main<H: Host>(
 ) -> (Option<Candidate>, Walk)
     requires sound { H.FileTree.sound host.now }
     requires room_for_a_text { 255 ≤ length out.old }
-    ensures next_or_moved { Stepped (stage-left (tables settings.now) fully_specified path.now (H.FileTree.meaning host.now) (Stage.Main main) place) (option_map (said path.now out.new) result.0) (left (tables settings.now) fully_specified path.now (H.FileTree.meaning host.now) result.1) }
+    ensures next_or_moved { Stepped (stage_left (tables settings.now) fully_specified path.now (H.FileTree.meaning host.now) (Stage.Main main) place) (option_map (said path.now out.new) result.0) (left (tables settings.now) fully_specified path.now (H.FileTree.meaning host.now) result.1) }
     ensures nearer_to_the_end { (rank result.1.stage ≤ rank (Stage.Main main)) × (result.0 ≡ None → rank result.1.stage < rank (Stage.Main main)) }
-    ensures only_its_text_is_written { out.new ≡ fronted (take (written-length result.0) out.new) out.old }
+    ensures only_its_text_is_written { out.new ≡ fronted (take (written_length result.0) out.new) out.old }
 {
     let mut joined = [0; MAX_LEN];
     let Some(text) = host.main_text(path, main) else {
@@ -196,9 +196,9 @@ fn step_main_index<H: Host>(
 ) -> (Option<Candidate>, Walk)
     requires sound { H.FileTree.sound host.now }
     requires room_for_a_text { 255 ≤ length out.old }
-    ensures next_or_moved { Stepped (stage-left (tables settings.now) fully_specified path.now (H.FileTree.meaning host.now) (Stage.MainIndex main) place) (option_map (said path.now out.new) result.0) (left (tables settings.now) fully_specified path.now (H.FileTree.meaning host.now) result.1) }
+    ensures next_or_moved { Stepped (stage_left (tables settings.now) fully_specified path.now (H.FileTree.meaning host.now) (Stage.MainIndex main) place) (option_map (said path.now out.new) result.0) (left (tables settings.now) fully_specified path.now (H.FileTree.meaning host.now) result.1) }
     ensures nearer_to_the_end { (rank result.1.stage ≤ rank (Stage.MainIndex main)) × (result.0 ≡ None → rank result.1.stage < rank (Stage.MainIndex main)) }
-    ensures only_its_text_is_written { out.new ≡ fronted (take (written-length result.0) out.new) out.old }
+    ensures only_its_text_is_written { out.new ≡ fronted (take (written_length result.0) out.new) out.old }
 {
     let mut joined = [0; MAX_LEN];
     let Some(text) = host.main_text(path, main) else {
@@ -238,7 +238,7 @@ impl Walk {
         requires room_for_a_text { 255 ≤ length out.old }
         ensures next_or_moved { Stepped (left (tables settings.now) fully_specified path.now (H.FileTree.meaning host.old) self) (option_map (said path.now out.new) result.0) (left (tables settings.now) fully_specified path.now (H.FileTree.meaning host.old) result.1) }
         ensures nearer_to_the_end { result.0 ≡ None → ended self.stage ≡ false → rank result.1.stage < rank self.stage }
-        ensures only_its_text_is_written { out.new ≡ fronted (take (written-length result.0) out.new) out.old }
+        ensures only_its_text_is_written { out.new ≡ fronted (take (written_length result.0) out.new) out.old }
         ensures same_meaning { H.FileTree.meaning host.new ≡ H.FileTree.meaning host.old }
         ensures still_sound { H.FileTree.sound host.new }
     {
@@ -267,7 +267,7 @@ impl Walk {
         requires sound { H.FileTree.sound host.old }
         ensures next_in_the_list { 255 ≤ length out.old → Taken (left (tables settings.now) fully_specified path.now (H.FileTree.meaning host.old) self.old) (option_map (said path.now out.new) result) (left (tables settings.now) fully_specified path.now (H.FileTree.meaning host.old) self.new) }
         ensures short_buffer_is_refused { length out.old < 255 → (result ≡ Some Candidate.TooLong) × ((self.new ≡ self.old) × (host.new ≡ host.old)) }
-        ensures only_its_text_is_written { out.new ≡ fronted (take (written-length result) out.new) out.old }
+        ensures only_its_text_is_written { out.new ≡ fronted (take (written_length result) out.new) out.old }
         ensures same_meaning { H.FileTree.meaning host.new ≡ H.FileTree.meaning host.old }
         ensures still_sound { H.FileTree.sound host.new }
     {

@@ -13,26 +13,26 @@ use Rattle.explain.specs.declared.answer.Answer.TheVariants as answer
 
 -- the kind of the path that is looked for, no such path, or what the lookup finds
 pub data Heard : Type 0 where
-  kind-is : Kind → Heard
-  no-path : Heard
-  found-by : Finding → Heard
+  kind_is : Kind → Heard
+  no_path : Heard
+  found_by : Finding → Heard
 
 -- what an answer says
 abbrev pub heard : Answer → Heard
-heard (answer.Kind k) = kind-is k
-heard answer.NoPath = no-path
-heard (answer.Found t) = found-by (found (bytes_of t))
-heard answer.Missing = found-by missing
-heard answer.Broken = found-by faulty
+heard (answer.Kind k) = kind_is k
+heard answer.NoPath = no_path
+heard (answer.Found t) = found_by (found (bytes_of t))
+heard answer.Missing = found_by missing
+heard answer.Broken = found_by faulty
 
 -- the kind of a path, if there is one
-abbrev pub kind-of-path : Meaning → Option Text → Heard
-kind-of-path m None = no-path
-kind-of-path m (Some t) = kind-is (m.kind (parts t))
+abbrev pub kind_of_path : Meaning → Option Text → Heard
+kind_of_path m None = no_path
+kind_of_path m (Some t) = kind_is (m.kind (parts t))
 
 -- absolute and relative requests ask for a kind; a package or a hash is looked up by the request's path, from the directory
-abbrev pub answer-of : Meaning → Text → Branch → Text → Option Text → Heard
-answer-of m directory branch.Absolute path sought = kind-of-path m sought
-answer-of m directory branch.Relative path sought = kind-of-path m sought
-answer-of m directory branch.Hash path sought = found-by (m.lookup way.Hash path (parts directory))
-answer-of m directory branch.Package path sought = found-by (m.lookup way.Package path (parts directory))
+abbrev pub answer_of : Meaning → Text → Branch → Text → Option Text → Heard
+answer_of m directory branch.Absolute path sought = kind_of_path m sought
+answer_of m directory branch.Relative path sought = kind_of_path m sought
+answer_of m directory branch.Hash path sought = found_by (m.lookup way.Hash path (parts directory))
+answer_of m directory branch.Package path sought = found_by (m.lookup way.Package path (parts directory))

@@ -1,6 +1,6 @@
 -- The question that a line asks. Assumes nothing.
 use Rattle.std.specs.Prelude.{cond, Some, None, Ok, Err, Option, Result, ◌==◌}
-use Rattle.lines.specs.Sheets.{Content, content-of}
+use Rattle.lines.specs.Sheets.{Content, content_of}
 use Rattle.texts.specs.Texts.{Text}
 use Rattle.explain.specs.declared.question.Question.{Question}
 use Rattle.explain.specs.declared.refusal.Refusal.{Refusal}
@@ -17,8 +17,8 @@ asked_by None = Err Line
 asked_by (Some c) = cond (c.kind == 40) (Ok (record { directory = c.first; request = c.second })) (Err Line)
 
 -- what a line asks
-abbrev pub question-of : Text → Result Asked Refusal
-question-of line = asked_by (content-of line)
+abbrev pub question_of : Text → Result Asked Refusal
+question_of line = asked_by (content_of line)
 
 -- what a question that was read asks
 abbrev pub asked : Question → Asked

@@ -9,8 +9,8 @@ use Rattle.specifier.specs.declared.request.Specifier.{Specifier}
 use Rattle.specifier.specs.declared.request.SpecifierError.{SpecifierError}
 use Rattle.specifier.specs.Accepted.{askable, startable}
 use Rattle.specifier.specs.Branches.{branch}
-use Rattle.specifier.specs.Requests.{fragment-of, path-of, piece-at, query-of, specifier-of}
-use Rattle.specifier.specs.Sought.{sought-path}
+use Rattle.specifier.specs.Requests.{fragment_of, path_of, piece_at, query_of, specifier_of}
+use Rattle.specifier.specs.Sought.{sought_path}
 use Rattle.explain.specs.declared.reading.Reading.{Reading}
 use Rattle.explain.specs.declared.refusal.Refusal.{Refusal}
 use Rattle.explain.specs.declared.refusal.Refusal.TheVariants.{Directory, Request, Empty}
@@ -24,27 +24,27 @@ pub record Meaning : Type 0 where
   pub sought : Option Text
 
 -- what is meant once the request is taken apart
-abbrev pub meant-by : Text → Text → Result Specifier SpecifierError → Result Meaning Refusal
-meant-by directory request (Err e) = Err Empty
-meant-by directory request (Ok s) = Ok (record {
-  path = path-of request;
-  query = query-of request;
-  fragment = fragment-of request;
-  way = branch (path-of request);
-  sought = sought-path directory (path-of request);
+abbrev pub meant_by : Text → Text → Result Specifier SpecifierError → Result Meaning Refusal
+meant_by directory request (Err e) = Err Empty
+meant_by directory request (Ok s) = Ok (record {
+  path = path_of request;
+  query = query_of request;
+  fragment = fragment_of request;
+  way = branch (path_of request);
+  sought = sought_path directory (path_of request);
 })
 
 -- the directory is looked at first, then the request, then its path
 abbrev pub meant : Text → Text → Result Meaning Refusal
 meant directory request =
-    cond (startable directory) (cond (askable request) (meant-by directory request (specifier-of request)) (Err Request)) (Err Directory)
+    cond (startable directory) (cond (askable request) (meant_by directory request (specifier_of request)) (Err Request)) (Err Directory)
 
 -- what a reading of the request says
 abbrev pub said : Text → Reading → Meaning
 said request r = record {
   path = bytes_of r.path;
-  query = piece-at request r.specifier.query;
-  fragment = piece-at request r.specifier.fragment;
+  query = piece_at request r.specifier.query;
+  fragment = piece_at request r.specifier.fragment;
   way = r.branch;
   sought = option_map bytes_of r.sought;
 }
@@ -62,16 +62,16 @@ looks Hash = false
 looks Package = false
 
 -- an accepted request looks for a path exactly if it is absolute or relative: no text on the way is too long
-abbrev pub Paths-are-sought : Text → Text → Type 0
-Paths-are-sought directory request =
-    startable directory ≡ true → askable request ≡ true → is_some (sought-path directory (path-of request)) ≡ looks (branch (path-of request))
+abbrev pub PathsAreSought : Text → Text → Type 0
+PathsAreSought directory request =
+    startable directory ≡ true → askable request ≡ true → is_some (sought_path directory (path_of request)) ≡ looks (branch (path_of request))
 
 -- a path with its fragment, where there is one and no query
-abbrev pub path-and-fragment : Text → Option Text → Option Text → Option Text
-path-and-fragment p (Some q) f = None
-path-and-fragment p None None = None
-path-and-fragment p None (Some f) = Some (p ++ f)
+abbrev pub path_and_fragment : Text → Option Text → Option Text → Option Text
+path_and_fragment p (Some q) f = None
+path_and_fragment p None None = None
+path_and_fragment p None (Some f) = Some (p ++ f)
 
 -- what is looked up before the path alone
-abbrev pub fragment-first : Meaning → Option Text
-fragment-first m = path-and-fragment m.path m.query m.fragment
+abbrev pub fragment_first : Meaning → Option Text
+fragment_first m = path_and_fragment m.path m.query m.fragment

@@ -5,7 +5,7 @@ use Rattle.texts.specs.Texts.{Text}
 use Rattle.settings.specs.Tables.{Alias}
 use Rattle.alias.specs.Attempts.{Attempt, again, ignored, overlong, unmatched}
 use Rattle.alias.specs.Forms.{key}
-use Rattle.alias.specs.Left.{label-of}
+use Rattle.alias.specs.Left.{label_of}
 use Rattle.explain.specs.declared.trial.Outcome.{Outcome}
 use Rattle.explain.specs.declared.trial.Outcome.TheVariants as outcome
 use Rattle.explain.specs.declared.trial.Trial.{Trial}
@@ -19,4 +19,4 @@ come label request outcome.TooLong = overlong
 
 -- a trial, by the label at its place
 abbrev pub tried : List Alias → Text → Trial → Attempt
-tried aliases request t = come (label-of (drop t.label aliases)) request t.outcome
+tried aliases request t = come (label_of (drop t.label aliases)) request t.outcome

@@ -3,7 +3,7 @@ ghost use Rattle.std.specs.Prelude.{◌≡◌};
 ghost use Rattle.std.specs.Option.{option_map};
 ghost use Rattle.texts.specs.Held.{bytes_of};
 ghost use Rattle.texts.specs.Parts.{parts};
-ghost use Rattle.explain.specs.Answers.{answer-of, found-by, heard};
+ghost use Rattle.explain.specs.Answers.{answer_of, found_by, heard};
 
 use crate::reading::Reading;
 use specifier::Branch;
@@ -23,7 +23,7 @@ pub enum Answer {
 // Where a request leads from a directory.
 fn look_up<H: Host>(host: &mut H, way: Way, request: &[u8], directory: &[u8]) -> Answer
     requires sound { H.FileTree.sound host.old }
-    ensures answer_by_the_meaning { heard result ≡ found-by ((H.FileTree.meaning host.old).lookup way request.now (parts directory.now)) }
+    ensures answer_by_the_meaning { heard result ≡ found_by ((H.FileTree.meaning host.old).lookup way request.now (parts directory.now)) }
     ensures same_meaning { H.FileTree.meaning host.new ≡ H.FileTree.meaning host.old }
     ensures still_sound { H.FileTree.sound host.new }
 {
@@ -41,7 +41,7 @@ fn look_up<H: Host>(host: &mut H, way: Way, request: &[u8], directory: &[u8]) ->
 /// Asks the host for the kind of the path that a reading looks for, or looks its package or hash up from the directory.
 pub fn ask<H: Host>(host: &mut H, directory: &[u8], reading: &Reading) -> Answer
     requires sound { H.FileTree.sound host.old }
-    ensures answer_by_the_meaning { heard result ≡ answer-of (H.FileTree.meaning host.old) directory.now reading.now.branch (bytes_of reading.now.path) (option_map bytes_of reading.now.sought) }
+    ensures answer_by_the_meaning { heard result ≡ answer_of (H.FileTree.meaning host.old) directory.now reading.now.branch (bytes_of reading.now.path) (option_map bytes_of reading.now.sought) }
     ensures same_meaning { H.FileTree.meaning host.new ≡ H.FileTree.meaning host.old }
     ensures still_sound { H.FileTree.sound host.new }
 {

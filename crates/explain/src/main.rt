@@ -3,7 +3,7 @@
 
 ghost use Rattle.std.specs.Prelude.{◌≡◌, ◌==◌, ◌||◌, is_some};
 ghost use Rattle.cache.specs.Held.{Agrees, held};
-ghost use Rattle.settings.specs.Kinds.{setting-of};
+ghost use Rattle.settings.specs.Kinds.{setting_of};
 ghost use Rattle.listing.specs.Entries.{rows};
 ghost use Rattle.listing.specs.Meanings.{listed};
 
@@ -38,7 +38,7 @@ const FLAG: u16 = 31;
 
 // Whether a line of this kind is one of the settings.
 fn is_setting(kind: u16) -> bool
-    ensures kind_of_a_setting_or_a_flag { result ≡ (kind == 31 || is_some (setting-of kind)) }
+    ensures kind_of_a_setting_or_a_flag { result ≡ (kind == 31 || is_some (setting_of kind)) }
 {
     kind == FLAG || Setting::of(kind).is_some()
 }

@@ -6,7 +6,7 @@ ghost use Rattle.settings.specs.Meant.{tables};
 ghost use Rattle.tree.specs.Acceptances.{acceptable};
 ghost use Rattle.candidates.specs.Candidates.{candidates};
 ghost use Rattle.candidates.specs.Answers.{said};
-ghost use Rattle.explain.specs.Offers.{judged, passes, shown, verdict-of};
+ghost use Rattle.explain.specs.Offers.{judged, passes, shown, verdict_of};
 
 use crate::trial::held;
 use candidates::{Candidate, Walk};
@@ -44,7 +44,7 @@ fn verdict_on<T: FileTree, P: Policy>(
     path: &[u8],
 ) -> Verdict
     requires sound { T.FileTree.sound tree.old }
-    ensures verdict_by_definition { result ≡ verdict-of (T.FileTree.meaning tree.old) (P.Policy.allowed policy.now) (map bytes_of restrictions.now) path.now }
+    ensures verdict_by_definition { result ≡ verdict_of (T.FileTree.meaning tree.old) (P.Policy.allowed policy.now) (map bytes_of restrictions.now) path.now }
     ensures passes_if_acceptable { passes result ≡ acceptable (T.FileTree.meaning tree.old) (P.Policy.allowed policy.now) (map bytes_of restrictions.now) path.now }
     ensures same_meaning { T.FileTree.meaning tree.new ≡ T.FileTree.meaning tree.old }
     ensures still_sound { T.FileTree.sound tree.new }

@@ -1,7 +1,7 @@
 // A line that asks: a directory and a request.
 ghost use Rattle.std.specs.Prelude.{◌≡◌};
 ghost use Rattle.std.specs.Result.{result_map_both};
-ghost use Rattle.explain.specs.Questions.{asked, blamed, question-of};
+ghost use Rattle.explain.specs.Questions.{asked, blamed, question_of};
 
 use crate::refusal::Refusal;
 use lines::Line;
@@ -18,7 +18,7 @@ pub struct Question<'a> {
 impl<'a> Question<'a> {
     /// The question in a line of kind 40; any other line is refused.
     pub fn read(line: &'a [u8]) -> Result<Question<'a>, Refusal>
-        ensures question_in_the_line { result_map_both asked (λ e. e) result ≡ question-of line.now }
+        ensures question_in_the_line { result_map_both asked (λ e. e) result ≡ question_of line.now }
     {
         match Line::read(line) {
             Ok(line) if line.kind == ASKS => Ok(Question {

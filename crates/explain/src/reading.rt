@@ -1,12 +1,12 @@
 // How a request is read: what the box makes of it before it looks for a file.
 ghost use Rattle.std.specs.Prelude.{◌≡◌, ◌<◌, length, MatchOption};
-ghost use Rattle.std.specs.Option.{option_map as mapped-option};
+ghost use Rattle.std.specs.Option.{option_map as mapped_option};
 ghost use Rattle.std.specs.Result.{result_map_both};
 ghost use Rattle.texts.specs.Held.{bytes_of};
 ghost use Rattle.texts.specs.Parts.{text_at};
 ghost use Rattle.specifier.specs.Requests.{unescaped};
-ghost use Rattle.specifier.specs.Sought.{sought-path};
-ghost use Rattle.explain.specs.Readings.{Paths-are-sought, fragment-first, meant, said, within};
+ghost use Rattle.specifier.specs.Sought.{sought_path};
+ghost use Rattle.explain.specs.Readings.{PathsAreSought, fragment_first, meant, said, within};
 
 use crate::refusal::Refusal;
 use specifier::{Branch, Specifier, is_directory, is_request, write_sought_path};
@@ -32,7 +32,7 @@ fn path_of(specifier: Specifier, request: &[u8]) -> Option<Text<255>>
 
 /// The path that is looked for, if there is one of at most 255 bytes.
 pub fn sought(directory: &[u8], path: &[u8]) -> Option<Text<255>>
-    ensures sought_path_if_short { mapped-option bytes_of result ≡ within (sought-path directory.now path.now) }
+    ensures sought_path_if_short { mapped_option bytes_of result ≡ within (sought_path directory.now path.now) }
 {
     let mut bytes = [0; 255];
     let len = write_sought_path(directory, path, &mut bytes)?;
@@ -43,7 +43,7 @@ impl Reading {
     /// Reads `request` from `directory`, or says why it is refused.
     pub fn of(directory: &[u8], request: &[u8]) -> Result<Reading, Refusal>
         ensures read_as_it_is_meant { result_map_both (said request.now) (λ e. e) result ≡ meant directory.now request.now }
-        ensures paths_are_sought { Paths-are-sought directory.now request.now }
+        ensures paths_are_sought { PathsAreSought directory.now request.now }
     {
         if !is_directory(directory) {
             return Err(Refusal::Directory);
@@ -69,7 +69,7 @@ impl Reading {
 
     /// The path with its fragment, which is looked up first where a request has a fragment and no query.
     pub fn with_fragment(&self, request: &[u8]) -> Option<Text<255>>
-        ensures path_and_fragment_without_a_query { mapped-option bytes_of result ≡ within (fragment-first (said request.now self.now)) }
+        ensures path_and_fragment_without_a_query { mapped_option bytes_of result ≡ within (fragment_first (said request.now self.now)) }
     {
         if self.specifier.query.is_some() {
             return None;

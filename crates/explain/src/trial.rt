@@ -2,7 +2,7 @@
 ghost use Rattle.std.specs.Prelude.{◌≡◌, ◌≤◌, IfOk, length, map};
 ghost use Rattle.texts.specs.Held.{bytes_of};
 ghost use Rattle.texts.specs.Texts.{Text as Bytes};
-ghost use Rattle.settings.specs.Rows.{alias-of};
+ghost use Rattle.settings.specs.Rows.{alias_of};
 ghost use Rattle.alias.specs.Attempts.{attempts};
 ghost use Rattle.alias.specs.Left.{said};
 ghost use Rattle.explain.specs.Trials.{tried};
@@ -41,7 +41,7 @@ impl Trial {
     // An attempt with its texts, the made one from the front of the work text.
     fn of(progress: &Progress, aliases: &[AliasRow], attempt: Attempt, work: &[u8]) -> Trial
         requires room_for_one_text { length work.now ≡ 255 }
-        ensures says_the_same { (request : Bytes) → tried (map alias-of aliases.now) request result ≡ said (map alias-of aliases.now) progress.now request work.now attempt }
+        ensures says_the_same { (request : Bytes) → tried (map alias_of aliases.now) request result ≡ said (map alias_of aliases.now) progress.now request work.now attempt }
     {
         let outcome = match attempt {
             Attempt::Again(new) => Outcome::Again(held(new.text(progress.value(aliases), work))),
@@ -65,7 +65,7 @@ pub fn trials<T: FileTree>(
     request: &[u8],
 ) -> Result<Vec<Trial>, AllocError>
     requires sound { T.FileTree.sound tree.old }
-    ensures every_attempt_in_its_order { IfOk result (λ v. map (tried (map alias-of aliases.now) request.now) v.items ≡ attempts (T.FileTree.meaning tree.old) directory.now request.now (map alias-of aliases.now)) }
+    ensures every_attempt_in_its_order { IfOk result (λ v. map (tried (map alias_of aliases.now) request.now) v.items ≡ attempts (T.FileTree.meaning tree.old) directory.now request.now (map alias_of aliases.now)) }
     ensures same_meaning { T.FileTree.meaning tree.new ≡ T.FileTree.meaning tree.old }
     ensures still_sound { T.FileTree.sound tree.new }
 {

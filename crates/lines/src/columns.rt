@@ -2,11 +2,11 @@
 ghost use Rattle.std.specs.Prelude.{◌≡◌, ◌+◌, ◌*◌, ◌/◌, ◌%◌, ◌<◌, ◌≤◌, length, is_some, Some, MatchOption};
 ghost use Rattle.std.specs.Bool.{then_some};
 ghost use Rattle.std.proofs.Math.Seq.{paste};
-ghost use Rattle.lines.specs.Columns.{column, has_room, is-column, number_at, worth};
+ghost use Rattle.lines.specs.Columns.{column, has_room, is_column, number_at, worth};
 
 // Whether three bytes are a column: one, two or three digits with blanks in front.
 fn is_column(a: u8, b: u8, c: u8) -> bool
-    ensures digits_behind_blanks { result ≡ is-column a b c }
+    ensures digits_behind_blanks { result ≡ is_column a b c }
 {
     match [a, b] {
         [b' ', b' '] => c.is_ascii_digit(),

@@ -4,8 +4,8 @@
 ghost use Rattle.std.specs.Prelude.{◌≡◌, ◌+◌, ◌≤◌, true, false, ◌++◌, length, take, IfOk, IfErr, Some, MatchOption};
 ghost use Rattle.std.specs.Option.{ok_or};
 ghost use Rattle.std.specs.Result.{result_map_both};
-ghost use Rattle.lines.specs.Columns.{have-room, number_at, written};
-ghost use Rattle.lines.specs.Sheets.{has-blanks, head-numbers, head_of, number_of, content-of, row-numbers, said, Shows};
+ghost use Rattle.lines.specs.Columns.{have_room, number_at, written};
+ghost use Rattle.lines.specs.Sheets.{has_blanks, head_numbers, head_of, number_of, content_of, row_numbers, said, Shows};
 ghost use Rattle.lines.specs.declared.Refusal.TheVariants.{BadLine};
 
 mod columns;
@@ -50,7 +50,7 @@ fn column_at(line: &[u8], at: usize) -> Result<u16, Refusal>
 
 // Whether a line has blanks between the columns and behind them.
 fn has_blanks(line: &[u8]) -> bool
-    ensures blanks_behind_the_columns { result ≡ has-blanks line.now }
+    ensures blanks_behind_the_columns { result ≡ has_blanks line.now }
     ensures at_least_12_bytes_if_true { result ≡ true → 12 ≤ length line.now }
 {
     line.len() >= 12 && line[3] == b' ' && line[7] == b' ' && line[11] == b' '
@@ -77,8 +77,8 @@ impl Head {
 
     /// The three columns, with a blank behind each.
     pub fn write(self) -> Option<[u8; 12]>
-        ensures writes_the_head { result ≡ written (head-numbers self) }
-        ensures reads_back { MatchOption result (have-room (head-numbers self) ≡ false) (λ bytes. head_of bytes ≡ Some self) }
+        ensures writes_the_head { result ≡ written (head_numbers self) }
+        ensures reads_back { MatchOption result (have_room (head_numbers self) ≡ false) (λ bytes. head_of bytes ≡ Some self) }
     {
         let mut bytes = [b' '; 12];
         put(&mut bytes, 0, self.kind)?;
@@ -99,7 +99,7 @@ pub struct Line<'a> {
 impl<'a> Line<'a> {
     /// A line whose head is followed by both texts and nothing else.
     pub fn read(line: &'a [u8]) -> Result<Line<'a>, Refusal>
-        ensures reads_the_line { result_map_both said (λ e. e) result ≡ ok_or (content-of line.now) BadLine }
+        ensures reads_the_line { result_map_both said (λ e. e) result ≡ ok_or (content_of line.now) BadLine }
         ensures nothing_but_head_and_texts { IfOk result (λ l. line.now ≡ take 12 line.now ++ (l.first.now ++ l.second.now)) }
         ensures refuses_with_15 { IfErr result (λ e. number_of e ≡ 15) }
     {
@@ -129,8 +129,8 @@ pub struct Row {
 impl Row {
     /// The five columns, with a blank behind each.
     pub fn write(self) -> Option<[u8; 20]>
-        ensures writes_the_row { result ≡ written (row-numbers self) }
-        ensures reads_back { MatchOption result (have-room (row-numbers self) ≡ false) (λ bytes. Shows bytes self) }
+        ensures writes_the_row { result ≡ written (row_numbers self) }
+        ensures reads_back { MatchOption result (have_room (row_numbers self) ≡ false) (λ bytes. Shows bytes self) }
     {
         let mut bytes = [b' '; 20];
         put(&mut bytes, 0, self.number)?;

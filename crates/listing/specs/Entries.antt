@@ -6,17 +6,17 @@ use Rattle.listing.specs.declared.kinds.LineKind.TheVariants.{File, Directory, B
 use Rattle.listing.specs.declared.listing.Listing.{Listing}
 use Rattle.listing.specs.declared.refusals.Refusal.{Refusal}
 use Rattle.listing.specs.declared.refusals.Refusal.TheVariants as refusals
-use Rattle.listing.specs.Kinds.{formed, line-kind, sized}
-use Rattle.listing.specs.Rows.{Row, is-manifest, row, row_of}
+use Rattle.listing.specs.Kinds.{formed, line_kind, sized}
+use Rattle.listing.specs.Rows.{Row, is_manifest, row, row_of}
 
 -- the rows of a listing, in their order
 abbrev pub rows : Listing → List Row
 rows s = map row (take s.count s.lines)
 
 -- some row is a manifest that is not broken
-abbrev pub has-manifest : List Row → Bool
-has-manifest [] = false
-has-manifest (r ∷ rs) = cond (is-manifest r.kind) true (has-manifest rs)
+abbrev pub has_manifest : List Row → Bool
+has_manifest [] = false
+has_manifest (r ∷ rs) = cond (is_manifest r.kind) true (has_manifest rs)
 
 -- a main text with no manifest before it
 abbrev pub headless : LineKind → List Row → Bool
@@ -24,7 +24,7 @@ headless File rs = false
 headless Directory rs = false
 headless BrokenManifest rs = false
 headless Manifest rs = false
-headless Main rs = not (has-manifest rs)
+headless Main rs = not (has_manifest rs)
 headless Package rs = false
 headless Hash rs = false
 
@@ -33,21 +33,21 @@ abbrev pub spelled : LineKind → Text → Text → Bool
 spelled k a b = sized k (length a) (length b) && (printable a && printable b)
 
 -- why a line of a kind is refused, in the order of the checks; none if it is taken
-abbrev pub refusal-of : List Row → LineKind → Text → Text → Option Refusal
-refusal-of rs k a b =
+abbrev pub refusal_of : List Row → LineKind → Text → Text → Option Refusal
+refusal_of rs k a b =
     cond (headless k rs) (Some refusals.MainBeforeManifest)
     (cond (not (spelled k a b)) (Some refusals.Text)
     (cond (not (formed k a b)) (Some refusals.Form)
     (cond (nat_le 256 (length rs)) (Some refusals.Full) None)))
 
 -- the same for a number that may be none of a kind
-abbrev pub refusal-by : List Row → Option LineKind → Text → Text → Option Refusal
-refusal-by rs None a b = Some refusals.Kind
-refusal-by rs (Some k) a b = refusal-of rs k a b
+abbrev pub refusal_by : List Row → Option LineKind → Text → Text → Option Refusal
+refusal_by rs None a b = Some refusals.Kind
+refusal_by rs (Some k) a b = refusal_of rs k a b
 
 -- why a line is refused; none if it is taken
 unfoldable pub refusal : List Row → ℕ → Text → Text → Option Refusal
-refusal rs n a b = refusal-by rs (line-kind n) a b
+refusal rs n a b = refusal_by rs (line_kind n) a b
 
 -- what the call returns
 abbrev pub entered : Option Refusal → Result Unit Refusal
@@ -65,5 +65,5 @@ with_row None rs new = rs ++ new
 with_row (Some e) rs new = rs
 
 -- the rows after a line was offered
-unfoldable pub rows-after : List Row → ℕ → Text → Text → List Row
-rows-after rs n a b = with_row (refusal rs n a b) rs (new_row (line-kind n) a b)
+unfoldable pub rows_after : List Row → ℕ → Text → Text → List Row
+rows_after rs n a b = with_row (refusal rs n a b) rs (new_row (line_kind n) a b)

@@ -1,5 +1,5 @@
 -- The kinds of lines by their numbers, what each kind takes, and the numbers of the refusals. Assumes nothing.
-use Rattle.std.specs.Prelude.{ℕ, Bool, true, false, cond, ◌&&◌, ◌||◌, List, [], ◌∷◌, length, Some, None, Option, ◌==◌, nat_le}
+use Rattle.std.specs.Prelude.{ℕ, Bool, true, cond, ◌&&◌, ◌||◌, Some, None, Option, ◌==◌, nat_le}
 use Rattle.texts.specs.Texts.{Text, empty}
 use Rattle.texts.specs.Parts.{clean}
 use Rattle.listing.specs.declared.kinds.LineKind.{LineKind}
@@ -8,8 +8,8 @@ use Rattle.listing.specs.declared.refusals.Refusal.{Refusal}
 use Rattle.listing.specs.declared.refusals.Refusal.TheVariants as refusal
 
 -- the kind that an office gives a number
-abbrev pub line-kind : ℕ → Option LineKind
-line-kind n =
+abbrev pub line_kind : ℕ → Option LineKind
+line_kind n =
     cond (n == 1) (Some File)
     (cond (n == 2) (Some Directory)
     (cond (n == 3) (Some BrokenManifest)
@@ -27,22 +27,22 @@ number refusal.MainBeforeManifest = 14
 number refusal.Kind = 15
 
 -- a path of at most 255 bytes and no second text
-abbrev pub path-sized : ℕ → ℕ → Bool
-path-sized a b = nat_le a 255 && b == 0
+abbrev pub path_sized : ℕ → ℕ → Bool
+path_sized a b = nat_le a 255 && b == 0
 
 -- a request of 1 to 96 bytes and a path of at most 255
-abbrev pub request-sized : ℕ → ℕ → Bool
-request-sized a b = nat_le 1 a && (nat_le a 96 && nat_le b 255)
+abbrev pub request_sized : ℕ → ℕ → Bool
+request_sized a b = nat_le 1 a && (nat_le a 96 && nat_le b 255)
 
 -- the lengths of the two texts that a kind takes; a main text has at most 32 bytes
 abbrev pub sized : LineKind → ℕ → ℕ → Bool
-sized File a b = path-sized a b
-sized Directory a b = path-sized a b
-sized BrokenManifest a b = path-sized a b
-sized Manifest a b = path-sized a b
+sized File a b = path_sized a b
+sized Directory a b = path_sized a b
+sized BrokenManifest a b = path_sized a b
+sized Manifest a b = path_sized a b
 sized Main a b = nat_le a 32 && b == 0
-sized Package a b = request-sized a b
-sized Hash a b = request-sized a b
+sized Package a b = request_sized a b
+sized Hash a b = request_sized a b
 
 -- the form of the two texts that a kind takes: a listed path is clean, a found one is clean or empty
 abbrev pub formed : LineKind → Text → Text → Bool

@@ -1,5 +1,5 @@
 -- The rows of a listing, and what every kept row has. Assumes nothing.
-use Rattle.std.specs.Prelude.{ℕ, Bool, true, false, ◌&&◌, leb, List, [], ◌∷◌, length}
+use Rattle.std.specs.Prelude.{Bool, true, false, ◌&&◌, List, [], ◌∷◌, length}
 use Rattle.texts.specs.Texts.{Text}
 use Rattle.texts.specs.Held.{bytes_of}
 use Rattle.tree.specs.declared.answers.Kind.{Kind}
@@ -33,21 +33,21 @@ all_fit [] = true
 all_fit (r ∷ rs) = fit r && all_fit rs
 
 -- the kind that a row gives its path
-abbrev pub kind-listed : LineKind → Kind
-kind-listed File = kind.File
-kind-listed Directory = kind.Directory
-kind-listed BrokenManifest = kind.Nothing
-kind-listed Manifest = kind.Nothing
-kind-listed Main = kind.Nothing
-kind-listed Package = kind.Nothing
-kind-listed Hash = kind.Nothing
+abbrev pub kind_listed : LineKind → Kind
+kind_listed File = kind.File
+kind_listed Directory = kind.Directory
+kind_listed BrokenManifest = kind.Nothing
+kind_listed Manifest = kind.Nothing
+kind_listed Main = kind.Nothing
+kind_listed Package = kind.Nothing
+kind_listed Hash = kind.Nothing
 
 -- a manifest that is not broken
-abbrev pub is-manifest : LineKind → Bool
-is-manifest File = false
-is-manifest Directory = false
-is-manifest BrokenManifest = false
-is-manifest Manifest = true
-is-manifest Main = false
-is-manifest Package = false
-is-manifest Hash = false
+abbrev pub is_manifest : LineKind → Bool
+is_manifest File = false
+is_manifest Directory = false
+is_manifest BrokenManifest = false
+is_manifest Manifest = true
+is_manifest Main = false
+is_manifest Package = false
+is_manifest Hash = false

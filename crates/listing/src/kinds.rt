@@ -1,6 +1,6 @@
 // What a line lists, what its texts may be, and what can be asked of it.
 ghost use Rattle.std.specs.Prelude.{◌≡◌};
-ghost use Rattle.listing.specs.Kinds.{formed, line-kind, sized};
+ghost use Rattle.listing.specs.Kinds.{formed, line_kind, sized};
 
 use texts::{MAX_LEN, is_clean};
 use tree::Way;
@@ -34,7 +34,7 @@ pub enum Topic {
 impl LineKind {
     /// The kind that an office gives this number.
     pub fn of(number: u16) -> Option<LineKind>
-        ensures kind_by_its_number { result ≡ line-kind number }
+        ensures kind_by_its_number { result ≡ line_kind number }
     {
         match number {
             1 => Some(LineKind::File),

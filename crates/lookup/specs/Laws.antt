@@ -9,31 +9,31 @@ use Rattle.tree.specs.Acceptances.{Allowed, acceptable}
 use Rattle.tree.specs.Meanings.{Meaning, Path, found}
 use Rattle.settings.specs.Tables.{Alias, Tables, Value, labelled}
 use Rattle.alias.specs.Forms.{touches}
-use Rattle.alias.specs.Laws.{Continues, is-plain}
-use Rattle.candidates.specs.Candidates.{Candidate, broken-at, candidates, inward, overlong, try}
-use Rattle.lookup.specs.Faults.{broken-manifest, long-text, not-found}
-use Rattle.lookup.specs.Lookups.{Context, Ended, ends-in, failed, missed, require}
-use Rattle.lookup.specs.Outcomes.{Outcome, Room, answer, handed-out, path, refusal, refused, rounds-at-most, rounds-of}
+use Rattle.alias.specs.Laws.{Continues, is_plain}
+use Rattle.candidates.specs.Candidates.{Candidate, broken_at, candidates, inward, overlong, try}
+use Rattle.lookup.specs.Faults.{broken_manifest, long_text, not_found}
+use Rattle.lookup.specs.Lookups.{Context, Ended, ends_in, failed, missed, require}
+use Rattle.lookup.specs.Outcomes.{Outcome, Room, answer, handed_out, path, refusal, refused, rounds_at_most, rounds_of}
 
 -- package and hash lookup of a host find only acceptable paths
-abbrev pub Finds-acceptable-paths : Meaning → Allowed → List Text → Type 0
-Finds-acceptable-paths m allowed restrictions = (w : Way) (r : Text) (dir : Path) (p : Text) → m.lookup w r dir ≡ found p → acceptable m allowed restrictions p ≡ true
+abbrev pub FindsAcceptablePaths : Meaning → Allowed → List Text → Type 0
+FindsAcceptablePaths m allowed restrictions = (w : Way) (r : Text) (dir : Path) (p : Text) → m.lookup w r dir ≡ found p → acceptable m allowed restrictions p ≡ true
 
 -- out of context mode, and where package and hash lookup find only acceptable paths, every path that is handed out is acceptable: a file that the policy allows and every restriction passes
-abbrev pub Only-acceptable-paths-are-handed-out : Type 0
-Only-acceptable-paths-are-handed-out =
-    (m : Meaning) (allowed : Allowed) (t : Tables) → t.context ≡ false → Finds-acceptable-paths m allowed t.restrictions
-    → (room : Room) (dir r p : Text) → handed-out (answer m allowed t room dir r) ≡ Some p → acceptable m allowed t.restrictions p ≡ true
+abbrev pub OnlyAcceptablePathsAreHandedOut : Type 0
+OnlyAcceptablePathsAreHandedOut =
+    (m : Meaning) (allowed : Allowed) (t : Tables) → t.context ≡ false → FindsAcceptablePaths m allowed t.restrictions
+    → (room : Room) (dir r p : Text) → handed_out (answer m allowed t room dir r) ≡ Some p → acceptable m allowed t.restrictions p ≡ true
 
 -- a part of a lookup that ended in a path or in a fault
 abbrev pub decisive : Ended → Bool
-decisive (ends-in p c) = true
+decisive (ends_in p c) = true
 decisive (missed c) = false
 decisive (failed f c) = true
 
 -- however a lookup ends, no more rounds have run than the limit
-abbrev pub At-most-64-rounds-run : Type 0
-At-most-64-rounds-run = (m : Meaning) (allowed : Allowed) (t : Tables) (room : Room) (dir r : Text) → rounds-of (answer m allowed t room dir r) ≤ rounds-at-most
+abbrev pub AtMost64RoundsRun : Type 0
+AtMost64RoundsRun = (m : Meaning) (allowed : Allowed) (t : Tables) (room : Room) (dir r : Text) → rounds_of (answer m allowed t room dir r) ≤ rounds_at_most
 
 -- a request with neither `?` nor `#`, and so without query and fragment
 abbrev pub unmarked : Text → Bool
@@ -45,29 +45,29 @@ untouched [] r = true
 untouched (a ∷ more) r = cond (touches a.label r) false (untouched more r)
 
 -- no label touches a candidate
-abbrev pub all-untouched : List Alias → List Candidate → Bool
-all-untouched labels [] = true
-all-untouched labels (try p ∷ more) = untouched labels p && all-untouched labels more
-all-untouched labels (broken-at p ∷ more) = all-untouched labels more
-all-untouched labels (overlong ∷ more) = all-untouched labels more
+abbrev pub all_untouched : List Alias → List Candidate → Bool
+all_untouched labels [] = true
+all_untouched labels (try p ∷ more) = untouched labels p && all_untouched labels more
+all_untouched labels (broken_at p ∷ more) = all_untouched labels more
+all_untouched labels (overlong ∷ more) = all_untouched labels more
 
 -- what a list of candidates decides: its first acceptable one, or the end that stands before that one, or that nothing is found
 abbrev pub decided : Meaning → Allowed → List Text → Text → List Candidate → Outcome
-decided m allowed restrictions r [] = refused (not-found r) 1
+decided m allowed restrictions r [] = refused (not_found r) 1
 decided m allowed restrictions r (try p ∷ more) = cond (acceptable m allowed restrictions p) (path p None None 1) (decided m allowed restrictions r more)
-decided m allowed restrictions r (broken-at p ∷ more) = refused (broken-manifest p) 1
-decided m allowed restrictions r (overlong ∷ more) = refused long-text 1
+decided m allowed restrictions r (broken_at p ∷ more) = refused (broken_manifest p) 1
+decided m allowed restrictions r (overlong ∷ more) = refused long_text 1
 
 -- the candidates of a relative request
-abbrev pub candidates-of : Meaning → Tables → Text → Text → List Candidate
-candidates-of m t dir r = candidates t t.fully_specified m (inward r) (join dir r)
+abbrev pub candidates_of : Meaning → Tables → Text → Text → List Candidate
+candidates_of m t dir r = candidates t t.fully_specified m (inward r) (join dir r)
 
 -- a relative request with neither `?` nor `#` that no label touches, nor any of its candidates, gives the first acceptable candidate byte for byte, with no query and no fragment, after one round; if none is acceptable, nothing is found
-abbrev pub First-acceptable-candidate-is-handed-out : Type 0
-First-acceptable-candidate-is-handed-out =
+abbrev pub FirstAcceptableCandidateIsHandedOut : Type 0
+FirstAcceptableCandidateIsHandedOut =
     (m : Meaning) (allowed : Allowed) (t : Tables) (room : Room) (dir r : Text) → t.context ≡ false → refusal room dir r ≡ None
-    → unmarked r ≡ true → branch r ≡ way.Relative → joins dir r ≡ true → untouched t.aliases r ≡ true → all-untouched t.aliases (candidates-of m t dir r) ≡ true
-    → answer m allowed t room dir r ≡ decided m allowed t.restrictions r (candidates-of m t dir r)
+    → unmarked r ≡ true → branch r ≡ way.Relative → joins dir r ≡ true → untouched t.aliases r ≡ true → all_untouched t.aliases (candidates_of m t dir r) ≡ true
+    → answer m allowed t room dir r ≡ decided m allowed t.restrictions r (candidates_of m t dir r)
 
 -- the settings with other labels
 abbrev pub relabelled : List Alias → Tables → Tables
@@ -82,18 +82,18 @@ relabelled labels t = record {
 }
 
 -- a request for a package with neither `?` nor `#` that is not a plain label, nor continues it with a slash or a backslash, ends with that label alone in the table as with no label at all
-abbrev pub Plain-label-covers-only-what-continues-it : Type 0
-Plain-label-covers-only-what-continues-it =
-    (m : Meaning) (allowed : Allowed) (t : Tables) (room : Room) (dir r l : Text) (vs : List Value) → unmarked r ≡ true → branch r ≡ way.Package → is-plain l ≡ true → (Continues l r → ⊥)
+abbrev pub PlainLabelCoversOnlyWhatContinuesIt : Type 0
+PlainLabelCoversOnlyWhatContinuesIt =
+    (m : Meaning) (allowed : Allowed) (t : Tables) (room : Room) (dir r l : Text) (vs : List Value) → unmarked r ≡ true → branch r ≡ way.Package → is_plain l ≡ true → (Continues l r → ⊥)
     → answer m allowed (relabelled (labelled l vs ∷ []) t) room dir r ≡ answer m allowed (relabelled [] t) room dir r
 
 -- a lookup never ends in nothing: it ends in a path or in a fault with its number
-abbrev pub Ends-in-a-path-or-a-fault : Type 0
-Ends-in-a-path-or-a-fault =
+abbrev pub EndsInAPathOrAFault : Type 0
+EndsInAPathOrAFault =
     (m : Meaning) (allowed : Allowed) (t : Tables) (limit n : ℕ) (dir r : Text) (c : Context) → decisive (require m allowed t limit n dir r c) ≡ true
 
 -- how deep rounds may lie in one another never shows, once it is enough for the rounds that are left
-abbrev pub Nesting-never-shows : Type 0
-Nesting-never-shows =
+abbrev pub NestingNeverShows : Type 0
+NestingNeverShows =
     (m : Meaning) (allowed : Allowed) (t : Tables) (limit n k : ℕ) (dir r : Text) (c : Context) → limit ≤ n + c.rounds → limit ≤ k + c.rounds
     → require m allowed t limit n dir r c ≡ require m allowed t limit k dir r c

@@ -5,31 +5,31 @@ use Rattle.specifier.specs.Accepted.{askable, startable}
 use Rattle.tree.specs.Acceptances.{Allowed}
 use Rattle.tree.specs.Meanings.{Meaning}
 use Rattle.settings.specs.Tables.{Tables}
-use Rattle.lookup.specs.Faults.{Fault, bad-directory, bad-request, no-memory, number, recursion, texts}
-use Rattle.lookup.specs.Lookups.{Context, Ended, ends-in, failed, missed, require}
+use Rattle.lookup.specs.Faults.{Fault, bad_directory, bad_request, no_memory, number, recursion, texts}
+use Rattle.lookup.specs.Lookups.{Context, Ended, ends_in, failed, missed, require}
 
 -- the rounds that run at most
-abbrev pub rounds-at-most : ℕ
-rounds-at-most = 64
+abbrev pub rounds_at_most : ℕ
+rounds_at_most = 64
 
 -- a path with query and fragment, or a fault; and the rounds run
 pub data Outcome : Type 0 where
   path : Text → Option Text → Option Text → ℕ → Outcome
   refused : Fault → ℕ → Outcome
 
-abbrev pub rounds-of : Outcome → ℕ
-rounds-of (path p q f n) = n
-rounds-of (refused f n) = n
+abbrev pub rounds_of : Outcome → ℕ
+rounds_of (path p q f n) = n
+rounds_of (refused f n) = n
 
 -- the path that is handed out, if one is
-abbrev pub handed-out : Outcome → Option Text
-handed-out (path p q f n) = Some p
-handed-out (refused f n) = None
+abbrev pub handed_out : Outcome → Option Text
+handed_out (path p q f n) = Some p
+handed_out (refused f n) = None
 
-abbrev pub outcome-of : Ended → Outcome
-outcome-of (ends-in p c) = path p c.query c.fragment c.rounds
-outcome-of (missed c) = refused recursion c.rounds
-outcome-of (failed f c) = refused f c.rounds
+abbrev pub outcome_of : Ended → Outcome
+outcome_of (ends_in p c) = path p c.query c.fragment c.rounds
+outcome_of (missed c) = refused recursion c.rounds
+outcome_of (failed f c) = refused f c.rounds
 
 -- the context that a lookup starts with
 abbrev pub fresh : Tables → Context
@@ -37,7 +37,7 @@ fresh t = record { rounds = 0; fully = t.fully_specified; query = None; fragment
 
 -- how an accepted lookup ends
 unfoldable pub lookup : Meaning → Allowed → Tables → Text → Text → Outcome
-lookup m allowed t dir r = outcome-of (require m allowed t rounds-at-most rounds-at-most dir r (fresh t))
+lookup m allowed t dir r = outcome_of (require m allowed t rounds_at_most rounds_at_most dir r (fresh t))
 
 -- the room that a call is given: bytes of the text area, rows, and bytes of the three buffers
 pub record Room : Type 0 where
@@ -53,15 +53,15 @@ roomy r = nat_le 131072 r.area && (nat_le 1024 r.rows && (nat_le 255 r.first && 
 -- why a call is refused before the lookup, in this order: 1, 2, 20
 abbrev pub refusal : Room → Text → Text → Option Fault
 refusal room dir r =
-    cond (roomy room) (cond (startable dir) (cond (askable r) None (Some bad-request)) (Some bad-directory)) (Some no-memory)
+    cond (roomy room) (cond (startable dir) (cond (askable r) None (Some bad_request)) (Some bad_directory)) (Some no_memory)
 
-abbrev pub unless-refused : Option Fault → Outcome → Outcome
-unless-refused None o = o
-unless-refused (Some f) o = refused f 0
+abbrev pub unless_refused : Option Fault → Outcome → Outcome
+unless_refused None o = o
+unless_refused (Some f) o = refused f 0
 
 -- what a call answers
 abbrev pub answer : Meaning → Allowed → Tables → Room → Text → Text → Outcome
-answer m allowed t room dir r = unless-refused (refusal room dir r) (lookup m allowed t dir r)
+answer m allowed t room dir r = unless_refused (refusal room dir r) (lookup m allowed t dir r)
 
 -- a buffer after a text is written to it, if there is one: its other bytes stay
 abbrev pub written : Option Text → List ℕ → List ℕ
@@ -69,11 +69,11 @@ written None b = b
 written (Some t) b = t ++ drop (length t) b
 
 -- what the three buffers hold after a call: a path writes path, query and fragment, a fault its texts to the first two
-abbrev pub buffers-after : Outcome → List ℕ × (List ℕ × List ℕ) → List ℕ × (List ℕ × List ℕ)
-buffers-after (path p q f n) b = (written (Some p) b.0, (written q b.1.0, written f b.1.1))
-buffers-after (refused f n) b = (written (texts f).0 b.0, (written (texts f).1 b.1.0, b.1.1))
+abbrev pub buffers_after : Outcome → List ℕ × (List ℕ × List ℕ) → List ℕ × (List ℕ × List ℕ)
+buffers_after (path p q f n) b = (written (Some p) b.0, (written q b.1.0, written f b.1.1))
+buffers_after (refused f n) b = (written (texts f).0 b.0, (written (texts f).1 b.1.0, b.1.1))
 
 -- the number that a call answers: 0 with a path, else that of the fault
-abbrev pub number-of : Outcome → ℕ
-number-of (path p q f n) = 0
-number-of (refused f n) = number f
+abbrev pub number_of : Outcome → ℕ
+number_of (path p q f n) = 0
+number_of (refused f n) = number f

@@ -7,24 +7,24 @@ use Rattle.texts.specs.Texts.{Text, SLASH, empty, begins, ends, fits}
 use Rattle.texts.specs.Parts.{root, here, above, Mark, marks, parts}
 
 -- where the last part but one ends
-abbrev pub last-but-one : Mark → List Mark → ℕ
-last-but-one m [] = 0
-last-but-one m (n ∷ []) = m.1
-last-but-one m (n ∷ o ∷ ms) = last-but-one n (o ∷ ms)
+abbrev pub last_but_one : Mark → List Mark → ℕ
+last_but_one m [] = 0
+last_but_one m (n ∷ []) = m.1
+last_but_one m (n ∷ o ∷ ms) = last_but_one n (o ∷ ms)
 
 -- how many bytes stay of a text of at most one part: all if the root leads, else none
-abbrev pub root-length : Text → ℕ
-root-length s = cond (begins SLASH s) (length s) 0
+abbrev pub root_length : Text → ℕ
+root_length s = cond (begins SLASH s) (length s) 0
 
 -- how many bytes stay of a text with these parts: all behind the last part but one go
-abbrev pub cut-length : Text → List Mark → ℕ
-cut-length s [] = root-length s
-cut-length s (m ∷ []) = root-length s
-cut-length s (m ∷ n ∷ ms) = last-but-one m (n ∷ ms)
+abbrev pub cut_length : Text → List Mark → ℕ
+cut_length s [] = root_length s
+cut_length s (m ∷ []) = root_length s
+cut_length s (m ∷ n ∷ ms) = last_but_one m (n ∷ ms)
 
 -- a text cut by `..`: behind its last part but one or to nothing, never the root
 unfoldable pub cut : Text → Text
-cut s = take (cut-length s (marks s)) s
+cut s = take (cut_length s (marks s)) s
 
 -- what stands between a text and a name behind it: a slash, unless the text is empty or ends in one
 abbrev pub separator : Text → Text
@@ -39,13 +39,13 @@ abbrev pub component : Text → Component
 component p = cond (bytes_eq p here) CurDir (cond (bytes_eq p above) ParentDir Normal)
 
 -- a text with one more part: `.` does nothing, `..` cuts, a name is added
-abbrev pub grown-by : Component → Text → Text → Text
-grown-by CurDir a p = a
-grown-by ParentDir a p = cut a
-grown-by Normal a p = slashed a ++ p
+abbrev pub grown_by : Component → Text → Text → Text
+grown_by CurDir a p = a
+grown_by ParentDir a p = cut a
+grown_by Normal a p = slashed a ++ p
 
 unfoldable pub grown : Text → Text → Text
-grown a p = grown-by (component p) a p
+grown a p = grown_by (component p) a p
 
 -- a text with more parts in turn
 unfoldable pub walked : Text → List Text → Text
@@ -58,8 +58,8 @@ peak a [] = length a
 peak a (p ∷ ps) = max (length a) (peak (grown a p) ps)
 
 -- a text with more parts in turn, or none where a text on the way has more than 255 bytes
-abbrev pub walked-within : Text → List Text → Option Text
-walked-within a ps = cond (nat_le (peak a ps) 255) (Some (walked a ps)) None
+abbrev pub walked_within : Text → List Text → Option Text
+walked_within a ps = cond (nat_le (peak a ps) 255) (Some (walked a ps)) None
 
 -- a text of these parts takes the place of any text that it is joined to: it has no part, or the root leads
 abbrev pub replaces : List Text → Bool

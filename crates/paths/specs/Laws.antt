@@ -5,13 +5,13 @@ use Rattle.texts.specs.Parts.{clean, parts}
 use Rattle.paths.specs.Joins.{climbs, join, joins, relative}
 
 -- a relative text joined to a clean directory gives a clean path, which begins with a slash: it never climbs above the root
-abbrev pub Clean-stays-clean : Text → Text → Type 0
-Clean-stays-clean dir more = clean dir ≡ true → relative more ≡ true → (clean (join dir more) ≡ true) × (begins SLASH (join dir more) ≡ true)
+abbrev pub CleanStaysClean : Text → Text → Type 0
+CleanStaysClean dir more = clean dir ≡ true → relative more ≡ true → (clean (join dir more) ≡ true) × (begins SLASH (join dir more) ≡ true)
 
 -- a relative text without `..` keeps the text that it is joined to as a beginning
-abbrev pub Directory-stays-in-front : Text → Text → Type 0
-Directory-stays-in-front dir more = relative more ≡ true → climbs (parts more) ≡ false → take (length dir) (join dir more) ≡ dir
+abbrev pub DirectoryStaysInFront : Text → Text → Type 0
+DirectoryStaysInFront dir more = relative more ≡ true → climbs (parts more) ≡ false → take (length dir) (join dir more) ≡ dir
 
 -- the joined text has at most one byte more than both, so short texts are never refused
-abbrev pub Short-texts-join : Text → Text → Type 0
-Short-texts-join dir more = (length (join dir more) ≤ length dir + length more + 1) × (length dir + length more + 1 ≤ 255 → joins dir more ≡ true)
+abbrev pub ShortTextsJoin : Text → Text → Type 0
+ShortTextsJoin dir more = (length (join dir more) ≤ length dir + length more + 1) × (length dir + length more + 1 ≤ 255 → joins dir more ≡ true)

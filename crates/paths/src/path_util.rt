@@ -1,11 +1,11 @@
 // Joining one text to another, and normalizing.
 ghost use Rattle.std.specs.Prelude.{◌≡◌, ◌+◌, ◌≤◌, true, false, [], ◌++◌, length, take, is_some, IfSome, Some};
 ghost use Rattle.stack.specs.Items.{items};
-ghost use Rattle.texts.specs.Texts.{begins, ends, fronted, length-in, buffer-with, text_in};
-ghost use Rattle.texts.specs.Parts.{clean, marks, parts, places, texts-of};
-ghost use Rattle.paths.specs.Laws.{Clean-stays-clean, Directory-stays-in-front, Short-texts-join};
+ghost use Rattle.texts.specs.Texts.{begins, ends, fronted, length_in, buffer_with, text_in};
+ghost use Rattle.texts.specs.Parts.{clean, marks, parts, places, texts_of};
+ghost use Rattle.paths.specs.Laws.{CleanStaysClean, DirectoryStaysInFront, ShortTextsJoin};
 ghost use Rattle.texts.specs.Walks.{left, subject};
-ghost use Rattle.paths.specs.Joins.{component, cut-length, grown, joined, normalize as normalize-of, normalized, relative, root-length, separator, slashed, walked-within};
+ghost use Rattle.paths.specs.Joins.{component, cut_length, grown, joined, normalize as normalize_of, normalized, relative, root_length, separator, slashed, walked_within};
 
 use stack::Stack;
 use texts::{Components, MAX_LEN, Place, copy_text, push_parts, same_bytes};
@@ -37,7 +37,7 @@ impl Component {
 
 // What stays of a text of at most one part when that is cut off: all if it is the root.
 fn root_len(text: &[u8]) -> usize
-    ensures all_of_the_root_or_nothing { result ≡ root-length text.now }
+    ensures all_of_the_root_or_nothing { result ≡ root_length text.now }
 {
     match text {
         [b'/', ..] => text.len(),
@@ -48,7 +48,7 @@ fn root_len(text: &[u8]) -> usize
 // Where the text is cut off whose parts are on the stack.
 fn kept_len(text: &[u8], parts: &mut Stack<Place>) -> usize
     requires { items parts.old ≡ places text.now }
-    ensures length_after_the_cut { result ≡ cut-length text.now (marks text.now) }
+    ensures length_after_the_cut { result ≡ cut_length text.now (marks text.now) }
     ensures within_the_text { result ≤ length text.now }
 {
     let _ = parts.pop();
@@ -61,7 +61,7 @@ fn kept_len(text: &[u8], parts: &mut Stack<Place>) -> usize
 // How much of `text` stays when `..` cuts it.
 fn parent_len(text: &[u8]) -> usize
     requires { length text.now ≤ 255 }
-    ensures length_after_the_cut { result ≡ cut-length text.now (marks text.now) }
+    ensures length_after_the_cut { result ≡ cut_length text.now (marks text.now) }
     ensures within_the_text { result ≤ length text.now }
 {
     let mut slots = [Place { start: 0, len: 0 }; MAX_PARTS];
@@ -113,8 +113,8 @@ fn separator_for(text: &[u8]) -> &'static [u8]
 // Adds `name` to the text in the first `len` bytes of `text`, if there is room.
 fn add_name(text: &mut [u8], len: usize, name: &[u8]) -> Option<usize>
     requires { len ≤ length text.old }
-    ensures length_if_it_fits { result ≡ length-in (Some (slashed (take len text.old) ++ name.now)) (length text.old) }
-    ensures name_behind_the_text_if_it_fits { text.new ≡ buffer-with (Some (slashed (take len text.old) ++ name.now)) text.old }
+    ensures length_if_it_fits { result ≡ length_in (Some (slashed (take len text.old) ++ name.now)) (length text.old) }
+    ensures name_behind_the_text_if_it_fits { text.new ≡ buffer_with (Some (slashed (take len text.old) ++ name.now)) text.old }
 {
     let slash = separator_for(&text[0..len]);
     let room = text.len() - len;
@@ -128,8 +128,8 @@ fn add_name(text: &mut [u8], len: usize, name: &[u8]) -> Option<usize>
 // Joins one part to the text in the first `len` bytes of `text`, if there is room.
 fn push_component(text: &mut [u8], len: usize, part: &[u8]) -> Option<usize>
     requires { (len ≤ length text.old) × (length text.old ≡ 255) }
-    ensures length_if_it_fits { result ≡ length-in (Some (grown (take len text.old) part.now)) (length text.old) }
-    ensures part_joined_if_it_fits { text.new ≡ buffer-with (Some (grown (take len text.old) part.now)) text.old }
+    ensures length_if_it_fits { result ≡ length_in (Some (grown (take len text.old) part.now)) (length text.old) }
+    ensures part_joined_if_it_fits { text.new ≡ buffer_with (Some (grown (take len text.old) part.now)) text.old }
 {
     match Component::of(part) {
         Component::CurDir => Some(len),
@@ -146,7 +146,7 @@ fn push_components(
     rest: &mut Components,
 ) -> Option<usize>
     requires { (len ≤ length text.old) × (length text.old ≡ 255) × (subject rest.old ≡ source.now) }
-    ensures parts_joined_one_by_one { text_in result text.new ≡ walked-within (take len text.old) (texts-of (left rest.old)) }
+    ensures parts_joined_one_by_one { text_in result text.new ≡ walked_within (take len text.old) (texts_of (left rest.old)) }
     ensures at_most_255_bytes { IfSome result (λ n. n ≤ 255) }
 {
     let mut len = len;
@@ -182,11 +182,11 @@ fn join_into(base: &[u8], more: &[u8], text: &mut [u8]) -> Option<usize>
 
 /// Joins `more` to `base`, at the front of `out`. None where a text on the way has more than 255 bytes or the joined text does not fit `out`; then `out` stays as it was.
 pub fn normalize_with(base: &[u8], more: &[u8], out: &mut [u8]) -> Option<usize>
-    ensures length_of_the_joined_text { result ≡ length-in (joined base.now more.now) (length out.old) }
-    ensures joined_text_in_front { out.new ≡ buffer-with (joined base.now more.now) out.old }
-    ensures clean_stays_clean { Clean-stays-clean base.now more.now }
-    ensures directory_stays_in_front { Directory-stays-in-front base.now more.now }
-    ensures short_texts_always_join { Short-texts-join base.now more.now }
+    ensures length_of_the_joined_text { result ≡ length_in (joined base.now more.now) (length out.old) }
+    ensures joined_text_in_front { out.new ≡ buffer_with (joined base.now more.now) out.old }
+    ensures clean_stays_clean { CleanStaysClean base.now more.now }
+    ensures directory_stays_in_front { DirectoryStaysInFront base.now more.now }
+    ensures short_texts_always_join { ShortTextsJoin base.now more.now }
 {
     let mut text = [0; MAX_LEN];
     let len = join_into(base, more, &mut text)?;
@@ -214,10 +214,10 @@ fn normalize_into(text: &[u8], work: &mut [u8]) -> Option<usize>
 
 /// `text` normalized, at the front of `out`. None where `text` has more than 255 bytes or does not fit `out`; then `out` stays as it was.
 pub fn normalize(text: &[u8], out: &mut [u8]) -> Option<usize>
-    ensures length_of_the_normal_text { result ≡ length-in (normalized text.now) (length out.old) }
-    ensures normal_text_in_front { out.new ≡ buffer-with (normalized text.now) out.old }
-    ensures twice_is_once { normalize-of (normalize-of text.now) ≡ normalize-of text.now }
-    ensures never_longer { length (normalize-of text.now) ≤ length text.now }
+    ensures length_of_the_normal_text { result ≡ length_in (normalized text.now) (length out.old) }
+    ensures normal_text_in_front { out.new ≡ buffer_with (normalized text.now) out.old }
+    ensures twice_is_once { normalize_of (normalize_of text.now) ≡ normalize_of text.now }
+    ensures never_longer { length (normalize_of text.now) ≤ length text.now }
 {
     let mut work = [0; MAX_LEN];
     let len = normalize_into(text, &mut work)?;

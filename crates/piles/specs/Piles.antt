@@ -17,7 +17,7 @@ means (cached p) = means p
 means (mounting at p q) = mounted at (means p) (means q)
 
 -- every host at the bottom is proper and every mount stands at a path that a host can be mounted at
-abbrev pub Well-piled : Pile → Type 0
-Well-piled (host m) = Proper m
-Well-piled (cached p) = Well-piled p
-Well-piled (mounting at p q) = (mountable at ≡ true) × Well-piled p × Well-piled q
+abbrev pub WellPiled : Pile → Type 0
+WellPiled (host m) = Proper m
+WellPiled (cached p) = WellPiled p
+WellPiled (mounting at p q) = (mountable at ≡ true) × WellPiled p × WellPiled q

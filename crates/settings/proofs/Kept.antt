@@ -9,24 +9,24 @@ use Rattle.texts.specs.Parts.{every}
 use Rattle.texts.specs.Texts.{Text}
 use Rattle.texts.specs.declared.text.Text as room
 use Rattle.settings.specs.declared.kinds.Setting.TheVariants as setting
-use Rattle.settings.specs.Entries.{last-values, to_last}
-use Rattle.settings.specs.Limits.{alias-kept, aliases_kept, value-kept, values-kept, well_written}
+use Rattle.settings.specs.Entries.{last_values, to_last}
+use Rattle.settings.specs.Limits.{alias_kept, aliases_kept, value_kept, values_kept, well_written}
 use Rattle.settings.specs.Tables.{Alias, Value, labelled}
 
 -- the text that was made from these bytes
-pub text-made : {N : ℕ} (o : Option (room.Text N)) (x : room.Text N) (t : Text) → o ≡ Some x → MatchOption o (N < length t) (λ y. bytes_of y ≡ t) → bytes_of x ≡ t
-text-made {N} o x t e h = subst (λ (p : Option (room.Text N)). MatchOption p (N < length t) (λ y. bytes_of y ≡ t)) e h
+pub text_made : {N : ℕ} (o : Option (room.Text N)) (x : room.Text N) (t : Text) → o ≡ Some x → MatchOption o (N < length t) (λ y. bytes_of y ≡ t) → bytes_of x ≡ t
+text_made {N} o x t e h = subst (λ (p : Option (room.Text N)). MatchOption p (N < length t) (λ y. bytes_of y ≡ t)) e h
 
 -- texts
-pub every-pushed : (f : Text → Bool) (ts : List Text) (t : Text) → every f ts ≡ true → f t ≡ true → every f (ts ++ t ∷ []) ≡ true
-every-pushed f [] t h e = and_from (f t) true e refl
-every-pushed f (x ∷ ts) t h e = let p = and_parts (f x) (every f ts) h in and_from (f x) _ p.0 (every-pushed f ts t p.1 e)
+pub every_pushed : (f : Text → Bool) (ts : List Text) (t : Text) → every f ts ≡ true → f t ≡ true → every f (ts ++ t ∷ []) ≡ true
+every_pushed f [] t h e = and_from (f t) true e refl
+every_pushed f (x ∷ ts) t h e = let p = and_parts (f x) (every f ts) h in and_from (f x) _ p.0 (every_pushed f ts t p.1 e)
 
 -- a text put behind those of a list that has room
-pub text-pushed : {L N : ℕ} (v w : ArrayVec (room.Text L) N) (x : room.Text L) (t : Text) (ok : Bool)
+pub text_pushed : {L N : ℕ} (v w : ArrayVec (room.Text L) N) (x : room.Text L) (t : Text) (ok : Bool)
     → ok ≡ ltb (length (held v)) N → held w ≡ cond ok (held v ++ x ∷ []) (held v) → bytes_of x ≡ t → leb N (length (map bytes_of (held v))) ≡ false
     → map bytes_of (held w) ≡ map bytes_of (held v) ++ t ∷ []
-text-pushed {L} {N} v w x t ok is after made free =
+text_pushed {L} {N} v w x t ok is after made free =
     let few : length (held v) < N = omega (arith, leb-false N (length (map bytes_of (held v))) free, length-map (held v) (bytes_of {N = L})) in
     let yes : ok ≡ true = is ∙ lt-ltb _ _ few in
     ap (map bytes_of) (after ∙ cond-true ok _ _ yes)
@@ -34,21 +34,21 @@ text-pushed {L} {N} v w x t ok is after made free =
     ∙ ap (λ (b : Text). map bytes_of (held v) ++ b ∷ []) made
 
 -- labels
-pub aliases-pushed : (ls : List Alias) (t : Text) → aliases_kept ls ≡ true → well_written setting.Alias t ≡ true → aliases_kept (ls ++ labelled t [] ∷ []) ≡ true
-aliases-pushed [] t h e = and_from _ _ (and_from _ _ e (and_from _ _ (le-leb 0 4 (omega arith)) refl)) refl
-aliases-pushed (a ∷ ls) t h e = let p = and_parts (alias-kept a) (aliases_kept ls) h in and_from (alias-kept a) _ p.0 (aliases-pushed ls t p.1 e)
+pub aliases_pushed : (ls : List Alias) (t : Text) → aliases_kept ls ≡ true → well_written setting.Alias t ≡ true → aliases_kept (ls ++ labelled t [] ∷ []) ≡ true
+aliases_pushed [] t h e = and_from _ _ (and_from _ _ e (and_from _ _ (le-leb 0 4 (omega arith)) refl)) refl
+aliases_pushed (a ∷ ls) t h e = let p = and_parts (alias_kept a) (aliases_kept ls) h in and_from (alias_kept a) _ p.0 (aliases_pushed ls t p.1 e)
 
 -- values
-values-pushed : (vs : List Value) (v : Value) → values-kept vs ≡ true → value-kept v ≡ true → values-kept (vs ++ v ∷ []) ≡ true
-values-pushed [] v h e = and_from (value-kept v) true e refl
-values-pushed (x ∷ vs) v h e = let p = and_parts (value-kept x) (values-kept vs) h in and_from (value-kept x) _ p.0 (values-pushed vs v p.1 e)
+values_pushed : (vs : List Value) (v : Value) → values_kept vs ≡ true → value_kept v ≡ true → values_kept (vs ++ v ∷ []) ≡ true
+values_pushed [] v h e = and_from (value_kept v) true e refl
+values_pushed (x ∷ vs) v h e = let p = and_parts (value_kept x) (values_kept vs) h in and_from (value_kept x) _ p.0 (values_pushed vs v p.1 e)
 
-pub to-last-kept : (v : Value) (ls : List Alias) → aliases_kept ls ≡ true → value-kept v ≡ true → length (last-values ls) < 4 → aliases_kept (to_last v ls) ≡ true
-to-last-kept v [] h e few = refl
-to-last-kept v (a ∷ []) h e few =
-    let p = and_parts (alias-kept a) true h in
-    let q = and_parts (well_written setting.Alias a.label) (leb (length a.values) 4 && values-kept a.values) p.0 in
-    let r = and_parts (leb (length a.values) 4) (values-kept a.values) q.1 in
+pub to_last_kept : (v : Value) (ls : List Alias) → aliases_kept ls ≡ true → value_kept v ≡ true → length (last_values ls) < 4 → aliases_kept (to_last v ls) ≡ true
+to_last_kept v [] h e few = refl
+to_last_kept v (a ∷ []) h e few =
+    let p = and_parts (alias_kept a) true h in
+    let q = and_parts (well_written setting.Alias a.label) (leb (length a.values) 4 && values_kept a.values) p.0 in
+    let r = and_parts (leb (length a.values) 4) (values_kept a.values) q.1 in
     let short = le-leb (length (a.values ++ v ∷ [])) 4 (omega (arith, length_push a.values v)) in
-    and_from _ _ (and_from _ _ q.0 (and_from _ _ short (values-pushed a.values v r.1 e))) refl
-to-last-kept v (a ∷ b ∷ ls) h e few = let p = and_parts (alias-kept a) (aliases_kept (b ∷ ls)) h in and_from (alias-kept a) _ p.0 (to-last-kept v (b ∷ ls) p.1 e few)
+    and_from _ _ (and_from _ _ q.0 (and_from _ _ short (values_pushed a.values v r.1 e))) refl
+to_last_kept v (a ∷ b ∷ ls) h e few = let p = and_parts (alias_kept a) (aliases_kept (b ∷ ls)) h in and_from (alias_kept a) _ p.0 (to_last_kept v (b ∷ ls) p.1 e few)

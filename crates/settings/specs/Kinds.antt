@@ -6,8 +6,8 @@ use Rattle.settings.specs.declared.refusals.Refusal.{Refusal}
 use Rattle.settings.specs.declared.refusals.Refusal.TheVariants as refusal
 
 -- the setting to which an office gives a number
-abbrev pub setting-of : ℕ → Option Setting
-setting-of n =
+abbrev pub setting_of : ℕ → Option Setting
+setting_of n =
     cond (n == 21) (Some Alias)
     (cond (n == 23) (Some Value)
     (cond (n == 24) (Some Ignore)

@@ -12,5 +12,5 @@ value_of Ignore = ignore
 value_of (Path t) = to (bytes_of t)
 
 -- a label with its values, in the order written
-abbrev pub alias-of : AliasRow → Alias
-alias-of r = labelled (bytes_of r.label) (map value_of (take r.count r.values))
+abbrev pub alias_of : AliasRow → Alias
+alias_of r = labelled (bytes_of r.label) (map value_of (take r.count r.values))

@@ -35,15 +35,15 @@ abbrev pub unset : Tables
 unset = record { aliases = []; extensions = []; main_files = []; restrictions = []; fully_specified = false; context = false; enforcement = Auto }
 
 -- one of the texts is empty
-abbrev pub some-empty : List Text → Bool
-some-empty [] = false
-some-empty (t ∷ ts) = empty t || some-empty ts
+abbrev pub some_empty : List Text → Bool
+some_empty [] = false
+some_empty (t ∷ ts) = empty t || some_empty ts
 
 -- a path is tried only with an extension: left to itself, where an extension is empty
 abbrev pub enforces : EnforceExtension → List Text → Bool
 enforces Enabled extensions = true
 enforces Disabled extensions = false
-enforces Auto extensions = some-empty extensions
+enforces Auto extensions = some_empty extensions
 
 abbrev pub enforced : Tables → Bool
 enforced t = enforces t.enforcement t.extensions

@@ -2,7 +2,7 @@
 ghost use Rattle.std.specs.Prelude.{◌≡◌};
 ghost use Rattle.std.specs.Option.{ok_or};
 ghost use Rattle.std.specs.Result.{result_map_both};
-ghost use Rattle.settings.specs.Loading.{offer-of, offered};
+ghost use Rattle.settings.specs.Loading.{offer_of, offered};
 ghost use Rattle.settings.specs.declared.refusals.Refusal.TheVariants.{Kind};
 
 use crate::kinds::Setting;
@@ -24,7 +24,7 @@ pub enum Entry<'a> {
 impl<'a> Entry<'a> {
     // The entry in a line; a line with other columns or of another kind is refused.
     pub(crate) fn read(line: &'a [u8]) -> Result<Entry<'a>, Refusal>
-        ensures entry_in_the_line { result_map_both offered (λ e. e) result ≡ ok_or (offer-of line.now) Kind }
+        ensures entry_in_the_line { result_map_both offered (λ e. e) result ≡ ok_or (offer_of line.now) Kind }
     {
         let Ok(head) = Head::read(line) else {
             return Err(Refusal::Kind);

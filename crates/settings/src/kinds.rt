@@ -1,8 +1,8 @@
 // What a line of the settings adds.
 ghost use Rattle.std.specs.Prelude.{◌≡◌};
 ghost use Rattle.texts.specs.Texts.{has};
-ghost use Rattle.settings.specs.Entries.{dotted, formed, label-sized, sized};
-ghost use Rattle.settings.specs.Kinds.{setting-of};
+ghost use Rattle.settings.specs.Entries.{dotted, formed, label_sized, sized};
+ghost use Rattle.settings.specs.Kinds.{setting_of};
 
 use texts::{MAX_LEN, is_clean, position};
 
@@ -46,7 +46,7 @@ fn is_dotted(extension: &[u8]) -> bool
 impl Setting {
     /// The setting to which an office gives this number.
     pub fn of(number: u16) -> Option<Setting>
-        ensures setting_by_its_number { result ≡ setting-of number }
+        ensures setting_by_its_number { result ≡ setting_of number }
     {
         match number {
             21 => Some(Setting::Alias),
@@ -61,7 +61,7 @@ impl Setting {
 
     // Whether a label has a length that it may have; what is no label passes.
     pub(crate) fn takes_label(self, text: &[u8]) -> bool
-        ensures one_to_32_characters { result ≡ label-sized self text.now }
+        ensures one_to_32_characters { result ≡ label_sized self text.now }
     {
         match self {
             Setting::Alias => 1 <= text.len() && text.len() <= MAX_LABEL,

@@ -10,11 +10,11 @@ module _ (s : Text) (i : ℕ) (within : i < length s) (e : Bool) (found : e ≡ 
   here : e ≡ escapes (get_or s i 0 ∷ drop (i + 1) s)
   here = found ∙ ap escapes (take_rest s i) ∙ at_drop_more escapes s i 0 within
 
-  pub unescaped-less : e ≡ true → unescaped (drop i s) ≡ unescaped (drop (i + 1) s)
-  unescaped-less t = at_drop_more unescaped s i 0 within ∙ cond-true _ _ _ (sym here ∙ t)
+  pub unescaped_less : e ≡ true → unescaped (drop i s) ≡ unescaped (drop (i + 1) s)
+  unescaped_less t = at_drop_more unescaped s i 0 within ∙ cond-true _ _ _ (sym here ∙ t)
 
-  pub unescaped-keeps : e ≡ false → unescaped (drop i s) ≡ get_or s i 0 ∷ unescaped (drop (i + 1) s)
-  unescaped-keeps t = at_drop_more unescaped s i 0 within ∙ cond-false _ _ _ (sym here ∙ t)
+  pub unescaped_keeps : e ≡ false → unescaped (drop i s) ≡ get_or s i 0 ∷ unescaped (drop (i + 1) s)
+  unescaped_keeps t = at_drop_more unescaped s i 0 within ∙ cond-false _ _ _ (sym here ∙ t)
 
 -- a copy on its way: the first n bytes of out and what is still to come give all, and the rest of out is as it was
 pub record Copied (out was : List ℕ) (n : ℕ) (left all : List ℕ) : Type 0 where
@@ -23,15 +23,15 @@ pub record Copied (out was : List ℕ) (n : ℕ) (left all : List ℕ) : Type 0 
   pub rest : drop n out ≡ drop n was
 
 -- what is still to come, written otherwise
-pub copied-so : {out was : List ℕ} {n : ℕ} {left next all : List ℕ} → left ≡ next → Copied out was n left all → Copied out was n next all
-copied-so {out} {was} {n} {left} {next} {all} e c = subst (λ l. Copied out was n l all) e c
+pub copied_so : {out was : List ℕ} {n : ℕ} {left next all : List ℕ} → left ≡ next → Copied out was n left all → Copied out was n next all
+copied_so {out} {was} {n} {left} {next} {all} e c = subst (λ l. Copied out was n l all) e c
 
-pub copied-room : {out was : List ℕ} {n x : ℕ} {left all : List ℕ} → length all ≤ length out → Copied out was n (x ∷ left) all → n < length out
-copied-room h c = omega (arith, simp (length-append, length-take) at (ap length c.front))
+pub copied_room : {out was : List ℕ} {n x : ℕ} {left all : List ℕ} → length all ≤ length out → Copied out was n (x ∷ left) all → n < length out
+copied_room h c = omega (arith, simp (length-append, length-take) at (ap length c.front))
 
 pub copied_more : {out was : List ℕ} {n x : ℕ} {left all : List ℕ} → length all ≤ length out → Copied out was n (x ∷ left) all → Copied (set out n x) was (n + 1) left all
 copied_more {out} {was} {n} {x} {left} h c =
-    let within : n < length out = copied-room h c in
+    let within : n < length out = copied_room h c in
     record {
       room = simp length-set (omega arith);
       front = ap (λ l. l ++ left) (take_more_set out n x within) ∙ append_assoc (take n out) (x ∷ []) left ∙ c.front;

@@ -4,19 +4,19 @@ use Rattle.std.proofs.lemmas.Bool.{true≢false, eqb-true}
 use Rattle.std.specs.Str.{bytes_eq}
 use Rattle.specifier.specs.declared.branch.Branch.{Branch}
 use Rattle.specifier.specs.declared.branch.Branch.TheVariants.{Absolute, Relative, Hash, Package}
-use Rattle.specifier.specs.Branches.{way, branch, is-absolute}
-use Rattle.texts.specs.Parts.{root, here, parts, marks, pieces, before, headed, placed, texts-of}
+use Rattle.specifier.specs.Branches.{way, branch, is_absolute}
+use Rattle.texts.specs.Parts.{root, here, parts, marks, pieces, before, headed, placed, texts_of}
 use Rattle.texts.specs.Texts.{Text, HASH, DOT, SLASH, begins, until}
-use Rattle.texts.proofs.Scans.{others, pieces-split}
+use Rattle.texts.proofs.Scans.{others, pieces_split}
 
 -- a text has a first piece: what stands before the first slash
 first_piece : (s : Text) → (rest : List Text) × (pieces s ≡ take (until SLASH s) s ∷ rest)
-first_piece s = (others s, pieces-split s)
+first_piece s = (others s, pieces_split s)
 
 -- a first piece with a byte is the first part
-headed-by-name : (b : ℕ) (p : Text) (ps : List Text) → (rest : List Text) × (texts-of (headed (placed 0 ((b ∷ p) ∷ ps))) ≡ (b ∷ p) ∷ rest)
-headed-by-name b p [] = ([], refl)
-headed-by-name b p (q ∷ ps) = (_, refl)
+headed_by_name : (b : ℕ) (p : Text) (ps : List Text) → (rest : List Text) × (texts_of (headed (placed 0 ((b ∷ p) ∷ ps))) ≡ (b ∷ p) ∷ rest)
+headed_by_name b p [] = ([], refl)
+headed_by_name b p (q ∷ ps) = (_, refl)
 
 -- the first part: the root where a slash leads, else the first piece
 abbrev pub first : Text → Text
@@ -26,16 +26,16 @@ pub first_part : (b : ℕ) (s : Text) → (rest : List Text) × (parts (b ∷ s)
 unfolding pieces marks parts
 first_part b s =
     let more = first_piece s in
-    let named = headed-by-name b (take (until SLASH s) s) more.0 in
-    elim (eqb b SLASH) as (λ t. (rest : List Text) × (texts-of (headed (placed 0 (cond t ([] ∷ pieces s) (before b (pieces s))))) ≡ cond t root (take (cond t 0 (suc (until SLASH s))) (b ∷ s)) ∷ rest)) [
-      | true ↦ (_, ap (λ ps. texts-of (headed (placed 0 ([] ∷ ps)))) more.1)
-      | false ↦ (named.0, ap (λ ps. texts-of (headed (placed 0 (before b ps)))) more.1 ∙ named.1)
+    let named = headed_by_name b (take (until SLASH s) s) more.0 in
+    elim (eqb b SLASH) as (λ t. (rest : List Text) × (texts_of (headed (placed 0 (cond t ([] ∷ pieces s) (before b (pieces s))))) ≡ cond t root (take (cond t 0 (suc (until SLASH s))) (b ∷ s)) ∷ rest)) [
+      | true ↦ (_, ap (λ ps. texts_of (headed (placed 0 ([] ∷ ps)))) more.1)
+      | false ↦ (named.0, ap (λ ps. texts_of (headed (placed 0 (before b ps)))) more.1 ∙ named.1)
     ]
 
 -- the way follows from the first part alone
-branch-by-first : (b : ℕ) (s : Text) → branch (b ∷ s) ≡ way (b ∷ s) (first (b ∷ s) ∷ [])
+branch_by_first : (b : ℕ) (s : Text) → branch (b ∷ s) ≡ way (b ∷ s) (first (b ∷ s) ∷ [])
 unfolding branch
-branch-by-first b s = ap (way (b ∷ s)) (first_part b s).1
+branch_by_first b s = ap (way (b ∷ s)) (first_part b s).1
 
 -- what follows the first dot of a relative path
 abbrev pub dots : Text → Bool
@@ -52,14 +52,14 @@ by_bytes (b ∷ s) = cond (eqb b SLASH) Absolute (cond (eqb b DOT) (cond (dots s
 abbrev dotted : Text → Bool
 dotted p = bytes_eq p [] || bytes_eq p here
 
-dots-is : (s : Text) → dotted (take (until SLASH s) s) ≡ dots s
-dots-is [] = refl
-dots-is (c ∷ []) =
+dots_is : (s : Text) → dotted (take (until SLASH s) s) ≡ dots s
+dots_is [] = refl
+dots_is (c ∷ []) =
     elim (eqb c SLASH) as (λ t. dotted (take (cond t 0 1) (c ∷ [])) ≡ cond t true (eqb c DOT)) [
       | true ↦ refl
       | false ↦ elim (eqb c DOT) as (λ t. (false || (t && true)) ≡ t) [ true ↦ refl | false ↦ refl ]
     ]
-dots-is (c ∷ d ∷ s) =
+dots_is (c ∷ d ∷ s) =
     elim (eqb c SLASH) as (λ t. dotted (take (cond t 0 (suc (until SLASH (d ∷ s)))) (c ∷ d ∷ s)) ≡ cond t true (cond (eqb c DOT) (eqb d SLASH) false)) [
       | true ↦ refl
       | false ↦ elim (eqb c DOT) as (λ t. (false || (t && bytes_eq (take (until SLASH (d ∷ s)) (d ∷ s)) [])) ≡ cond t (eqb d SLASH) false) [
@@ -69,44 +69,44 @@ dots-is (c ∷ d ∷ s) =
     ]
 
 -- a dot is no `#`
-dot-no-hash : (b : ℕ) → eqb b DOT ≡ true → eqb b HASH ≡ false
-dot-no-hash b e = ap (λ n. eqb n HASH) (eqb-true b DOT e)
+dot_no_hash : (b : ℕ) → eqb b DOT ≡ true → eqb b HASH ≡ false
+dot_no_hash b e = ap (λ n. eqb n HASH) (eqb-true b DOT e)
 
 -- the way of a path whose first part is a name: x, y and z say whether it begins with `/`, `.` and `#`, m and n whether nothing or a dot follows
-named-way : (x y z m n : Bool) → x ≡ false → (y ≡ true → z ≡ false) → cond y (cond (m || n) Relative Package) (cond z Hash Package) ≡ cond (x && m) Absolute (cond ((y && m) || (y && n)) Relative (cond z Hash Package))
-named-way true y z m n e f = absurd (true≢false e)
-named-way false true z m n e f = ap (λ t. cond (m || n) Relative (cond t Hash Package)) (sym (f refl))
-named-way false false z m n e f = refl
+named_way : (x y z m n : Bool) → x ≡ false → (y ≡ true → z ≡ false) → cond y (cond (m || n) Relative Package) (cond z Hash Package) ≡ cond (x && m) Absolute (cond ((y && m) || (y && n)) Relative (cond z Hash Package))
+named_way true y z m n e f = absurd (true≢false e)
+named_way false true z m n e f = ap (λ t. cond (m || n) Relative (cond t Hash Package)) (sym (f refl))
+named_way false false z m n e f = refl
 
 by_first : (b : ℕ) (s : Text) (x : Bool) → eqb b SLASH ≡ x → cond x Absolute (cond (eqb b DOT) (cond (dots s) Relative Package) (cond (eqb b HASH) Hash Package)) ≡ way (b ∷ s) (cond x root (take (cond x 0 (suc (until SLASH s))) (b ∷ s)) ∷ [])
 by_first b s true e = refl
 by_first b s false e =
     let p = take (until SLASH s) s in
-    ap (λ t. cond (eqb b DOT) (cond t Relative Package) (cond (eqb b HASH) Hash Package)) (sym (dots-is s))
-    ∙ named-way (eqb b SLASH) (eqb b DOT) (eqb b HASH) (bytes_eq p []) (bytes_eq p here) e (dot-no-hash b)
+    ap (λ t. cond (eqb b DOT) (cond t Relative Package) (cond (eqb b HASH) Hash Package)) (sym (dots_is s))
+    ∙ named_way (eqb b SLASH) (eqb b DOT) (eqb b HASH) (bytes_eq p []) (bytes_eq p here) e (dot_no_hash b)
 
-by-bytes-is : (s : Text) → by_bytes s ≡ branch s
+by_bytes_is : (s : Text) → by_bytes s ≡ branch s
 unfolding branch parts marks pieces
-by-bytes-is [] = refl
-by-bytes-is (b ∷ s) = by_first b s (eqb b SLASH) refl ∙ sym (branch-by-first b s)
+by_bytes_is [] = refl
+by_bytes_is (b ∷ s) = by_first b s (eqb b SLASH) refl ∙ sym (branch_by_first b s)
 
-is-absolute-by-bytes : (s : Text) → is-absolute (by_bytes s) ≡ begins SLASH s
-is-absolute-by-bytes [] = refl
-is-absolute-by-bytes (b ∷ s) =
-    elim (eqb b SLASH) as (λ t. is-absolute (cond t Absolute (cond (eqb b DOT) (cond (dots s) Relative Package) (cond (eqb b HASH) Hash Package))) ≡ t) [
+is_absolute_by_bytes : (s : Text) → is_absolute (by_bytes s) ≡ begins SLASH s
+is_absolute_by_bytes [] = refl
+is_absolute_by_bytes (b ∷ s) =
+    elim (eqb b SLASH) as (λ t. is_absolute (cond t Absolute (cond (eqb b DOT) (cond (dots s) Relative Package) (cond (eqb b HASH) Hash Package))) ≡ t) [
       | true ↦ refl
-      | false ↦ elim (eqb b DOT) as (λ t. is-absolute (cond t (cond (dots s) Relative Package) (cond (eqb b HASH) Hash Package)) ≡ false) [
-        | true ↦ elim (dots s) as (λ t. is-absolute (cond t Relative Package) ≡ false) [ true ↦ refl | false ↦ refl ]
-        | false ↦ elim (eqb b HASH) as (λ t. is-absolute (cond t Hash Package) ≡ false) [ true ↦ refl | false ↦ refl ]
+      | false ↦ elim (eqb b DOT) as (λ t. is_absolute (cond t (cond (dots s) Relative Package) (cond (eqb b HASH) Hash Package)) ≡ false) [
+        | true ↦ elim (dots s) as (λ t. is_absolute (cond t Relative Package) ≡ false) [ true ↦ refl | false ↦ refl ]
+        | false ↦ elim (eqb b HASH) as (λ t. is_absolute (cond t Hash Package) ≡ false) [ true ↦ refl | false ↦ refl ]
       ]
     ]
 
 -- what the code found by the bytes is the way of the path
-pub way-told : (s : Text) (r : Branch) → r ≡ by_bytes s → record {
+pub way_told : (s : Text) (r : Branch) → r ≡ by_bytes s → record {
   way_of_the_first_part : r ≡ branch s;
-  absolute_exactly_with_a_leading_slash : is-absolute r ≡ begins SLASH s;
+  absolute_exactly_with_a_leading_slash : is_absolute r ≡ begins SLASH s;
 }
-way-told s r e = record {
-  way_of_the_first_part = e ∙ by-bytes-is s;
-  absolute_exactly_with_a_leading_slash = ap is-absolute e ∙ is-absolute-by-bytes s;
+way_told s r e = record {
+  way_of_the_first_part = e ∙ by_bytes_is s;
+  absolute_exactly_with_a_leading_slash = ap is_absolute e ∙ is_absolute_by_bytes s;
 }

@@ -16,8 +16,8 @@ unfoldable pub branch : Text → Branch
 branch s = way s (parts s)
 
 -- the way is the absolute one
-abbrev pub is-absolute : Branch → Bool
-is-absolute Absolute = true
-is-absolute Relative = false
-is-absolute Hash = false
-is-absolute Package = false
+abbrev pub is_absolute : Branch → Bool
+is_absolute Absolute = true
+is_absolute Relative = false
+is_absolute Hash = false
+is_absolute Package = false

@@ -7,7 +7,7 @@ use Rattle.specifier.specs.declared.request.Specifier.{Specifier}
 use Rattle.specifier.specs.declared.request.SpecifierError.{SpecifierError}
 use Rattle.specifier.specs.declared.request.SpecifierError.TheVariants.{Empty}
 use Rattle.specifier.specs.Branches.{branch}
-use Rattle.specifier.specs.Requests.{unescaped, piece-at, specifier-of}
+use Rattle.specifier.specs.Requests.{unescaped, piece_at, specifier_of}
 use Rattle.paths.specs.Joins.{joined, normalize}
 use Rattle.texts.specs.Parts.{text_at}
 use Rattle.texts.specs.Texts.{Text, NUL}
@@ -28,7 +28,7 @@ read_as p q f = Ok (record { path = p; query = q; fragment = f })
 
 -- what stands at the places of a specifier
 abbrev pub outcome : Text → Result Specifier SpecifierError → Outcome
-outcome s (Ok r) = read_as (unescaped (text_at s r.path)) (piece-at s r.query) (piece-at s r.fragment)
+outcome s (Ok r) = read_as (unescaped (text_at s r.path)) (piece_at s r.query) (piece_at s r.fragment)
 outcome s (Err e) = Err e
 
 -- requests, each with what it is read as
@@ -84,8 +84,8 @@ normals =
     ∷ []
 
 -- each request is read so, each path goes its way, and each text is joined and normalized so
-pub record Worked-examples : Type 0 where
-  pub read : AllByRecursion (λ x. outcome x.0 (specifier-of x.0) ≡ x.1) samples
+pub record WorkedExamples : Type 0 where
+  pub read : AllByRecursion (λ x. outcome x.0 (specifier_of x.0) ≡ x.1) samples
   pub gone : AllByRecursion (λ x. branch x.0 ≡ x.1) ways
-  pub joined-so : AllByRecursion (λ x. joined x.0 x.1 ≡ Some x.2) joins
-  pub normal-so : AllByRecursion (λ x. normalize x.0 ≡ x.1) normals
+  pub joined_so : AllByRecursion (λ x. joined x.0 x.1 ≡ Some x.2) joins
+  pub normal_so : AllByRecursion (λ x. normalize x.0 ≡ x.1) normals

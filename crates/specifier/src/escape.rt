@@ -1,7 +1,7 @@
 // Taking the escapes out of a path.
 ghost use Rattle.std.specs.Prelude.{◌≡◌, ◌≤◌, length, Some};
 ghost use Rattle.specifier.specs.Requests.{escapes, unescaped};
-ghost use Rattle.texts.specs.Texts.{fronted, length-in, buffer-with};
+ghost use Rattle.texts.specs.Texts.{fronted, length_in, buffer_with};
 
 /// Whether `text` begins with an escape.
 fn at_escape(text: &[u8]) -> bool
@@ -39,8 +39,8 @@ fn copy_unescaped(text: &[u8], out: &mut [u8])
 
 /// Copies `text` without its escapes to the front of `out`, and says how long that is; none, and `out` as it was, if it does not fit.
 pub(crate) fn write_unescaped(text: &[u8], out: &mut [u8]) -> Option<usize>
-    ensures length_if_it_fits { result ≡ length-in (Some (unescaped text.now)) (length out.old) }
-    ensures bytes_if_it_fits { out.new ≡ buffer-with (Some (unescaped text.now)) out.old }
+    ensures length_if_it_fits { result ≡ length_in (Some (unescaped text.now)) (length out.old) }
+    ensures bytes_if_it_fits { out.new ≡ buffer_with (Some (unescaped text.now)) out.old }
 {
     let len = unescaped_len(text);
     if len > out.len() {

@@ -1,6 +1,6 @@
 // Where the fragment of a request starts.
 ghost use Rattle.std.specs.Prelude.{◌≡◌};
-ghost use Rattle.specifier.specs.Requests.{until-hash};
+ghost use Rattle.specifier.specs.Requests.{until_hash};
 
 const FRAGMENT_MARK: u8 = b'#';
 
@@ -9,7 +9,7 @@ const ESCAPE: u8 = 0;
 
 /// How many bytes stand before the first `#` that is not directly after a NUL; `before` is the byte in front of `text`.
 pub(crate) fn until_hash(before: u8, text: &[u8]) -> usize
-    ensures counts_to_the_hash { result ≡ until-hash before text.now }
+    ensures counts_to_the_hash { result ≡ until_hash before text.now }
 {
     let mut prev = before;
     for (i, b) in text.iter().enumerate() {

@@ -1,7 +1,7 @@
 // The path that a request looks for.
 ghost use Rattle.std.specs.Prelude.{◌≡◌, length};
-ghost use Rattle.texts.specs.Texts.{buffer-with, length-in};
-ghost use Rattle.specifier.specs.Sought.{sought-path};
+ghost use Rattle.texts.specs.Texts.{buffer_with, length_in};
+ghost use Rattle.specifier.specs.Sought.{sought_path};
 
 use crate::branch::Branch;
 use paths::normalize_with;
@@ -9,8 +9,8 @@ use texts::{copy_text, trim_final_slashes};
 
 /// Writes the path that a request with this path looks for from `directory` to the front of `out`. None, and `out` as it was, where the request goes to hash or package lookup, or the path is longer than 255 bytes on the way or than `out`.
 pub fn write_sought_path(directory: &[u8], path: &[u8], out: &mut [u8]) -> Option<usize>
-    ensures length_of_the_path { result ≡ length-in (sought-path directory.now path.now) (length out.old) }
-    ensures path_in_front { out.new ≡ buffer-with (sought-path directory.now path.now) out.old }
+    ensures length_of_the_path { result ≡ length_in (sought_path directory.now path.now) (length out.old) }
+    ensures path_in_front { out.new ≡ buffer_with (sought_path directory.now path.now) out.old }
 {
     match Branch::of(path) {
         Branch::Absolute => copy_text(trim_final_slashes(path), out),

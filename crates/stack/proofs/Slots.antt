@@ -5,31 +5,31 @@ use Rattle.std.proofs.lemmas.List.{drop-map, drop_more, get_or-map, get_or-take,
 
 module _ {X Y : Type 0} (f : X → Y) (xs : List X) (n : ℕ) where
   -- there are n of them
-  pub slots-count : n ≤ length xs → length (map f (take n xs)) ≡ n
-  slots-count h = length-map (take n xs) f ∙ length-take-le n xs h
+  pub slots_count : n ≤ length xs → length (map f (take n xs)) ≡ n
+  slots_count h = length-map (take n xs) f ∙ length-take-le n xs h
 
   -- one slot more
-  pub slot-put : (x : X) → n < length xs → map f (take (n + 1) (set xs n x)) ≡ map f (take n xs) ++ f x ∷ []
-  slot-put x h = ap (map f) (take_more_set xs n x h) ∙ map_push f (take n xs) x
+  pub slot_put : (x : X) → n < length xs → map f (take (n + 1) (set xs n x)) ≡ map f (take n xs) ++ f x ∷ []
+  slot_put x h = ap (map f) (take_more_set xs n x h) ∙ map_push f (take n xs) x
 
   -- one of them changed
-  pub slot-changed : (i : ℕ) (x : X) → i < n → map f (take n (set xs i x)) ≡ set (map f (take n xs)) i (f x)
-  slot-changed i x h = ap (map f) (take-set-lt n xs i x h) ∙ map-set f (take n xs) i x
+  pub slot_changed : (i : ℕ) (x : X) → i < n → map f (take n (set xs i x)) ≡ set (map f (take n xs)) i (f x)
+  slot_changed i x h = ap (map f) (take-set-lt n xs i x h) ∙ map-set f (take n xs) i x
 
   -- the one at i
   pub slot_at : (i : ℕ) (d : X) (e : Y) → i < n → n ≤ length xs → get_or (map f (take n xs)) i e ≡ f (get_or xs i d)
   slot_at i d e h k = get_or-map f (take n xs) i d e (omega (arith, length-take-le n xs k)) ∙ ap f (get_or-take n xs i d h)
 
   -- what is left from i on
-  pub slots-from : (i : ℕ) (d : X) → i < n → n ≤ length xs → drop i (map f (take n xs)) ≡ f (get_or xs i d) ∷ drop (i + 1) (map f (take n xs))
-  slots-from i d h k =
+  pub slots_from : (i : ℕ) (d : X) → i < n → n ≤ length xs → drop i (map f (take n xs)) ≡ f (get_or xs i d) ∷ drop (i + 1) (map f (take n xs))
+  slots_from i d h k =
       drop-map f i (take n xs)
       ∙ ap (map f) (drop_more (take n xs) i d (omega (arith, length-take-le n xs k)))
       ∙ (λ j. f (get_or-take n xs i d h j) ∷ sym (drop-map f (i + 1) (take n xs)) j)
 
 -- the item at i of a list, by what it means, and those behind it
-pub mapped-from : {X Y : Type 0} (f : X → Y) (xs : List X) (i : ℕ) (x : X) → i < length xs → x ≡ get_or xs i x → drop i (map f xs) ≡ f x ∷ drop (i + 1) (map f xs)
-mapped-from f xs i x inside is =
+pub mapped_from : {X Y : Type 0} (f : X → Y) (xs : List X) (i : ℕ) (x : X) → i < length xs → x ≡ get_or xs i x → drop i (map f xs) ≡ f x ∷ drop (i + 1) (map f xs)
+mapped_from f xs i x inside is =
     drop-map f i xs
     ∙ ap (map f) (drop_more xs i x inside)
     ∙ (λ k. f (sym is k) ∷ sym (drop-map f (i + 1) xs) k)

@@ -11,7 +11,7 @@ abbrev pub capacity : {T : Type 0} → Stack T → ℕ
 capacity s = length s.slots.now
 
 -- the item at a place counted from the bottom, none beyond the top
-abbrev pub item-at : {T : Type 0} → List T → ℕ → Option T
-item-at [] i = None
-item-at (x ∷ xs) zero = Some x
-item-at (x ∷ xs) (suc i) = item-at xs i
+abbrev pub item_at : {T : Type 0} → List T → ℕ → Option T
+item_at [] i = None
+item_at (x ∷ xs) zero = Some x
+item_at (x ∷ xs) (suc i) = item_at xs i

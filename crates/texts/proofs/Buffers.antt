@@ -3,20 +3,20 @@ use Rattle.std.proofs.Common.{◌≡◌, ℕ, ◌+◌, ◌-◌, ◌<◌, ◌≤�
 use borrow.Rule.Slice.PartMut.{put_mid}
 use Rattle.std.proofs.lemmas.List.{drop_at, drop-drop, length-append, length-take-le, take-append-drop, take_at, take-take}
 use Rattle.std.proofs.lemmas.Bool.{cond-false, cond-true, le-leb, leb-false, leb-true, lt-leb}
-use Rattle.texts.specs.Texts.{Text, appended, fronted, length-in, buffer-with, text_in}
+use Rattle.texts.specs.Texts.{Text, appended, fronted, length_in, buffer_with, text_in}
 use Rattle.texts.proofs.PartLoops.{some≢none}
 
 -- a text written behind the first `a` bytes of a buffer
-pub append-is : (xs ys more : List ℕ) (a : ℕ) → ys ≡ more → a + length more ≤ length xs → put_mid a (a + length more - a) xs ys ≡ fronted (take a xs ++ more) xs
-append-is xs ys more a e h =
+pub append_is : (xs ys more : List ℕ) (a : ℕ) → ys ≡ more → a + length more ≤ length xs → put_mid a (a + length more - a) xs ys ≡ fronted (take a xs ++ more) xs
+append_is xs ys more a e h =
     let long : length (take a xs ++ more) ≡ a + (a + length more - a) = omega (arith, length-append (take a xs) more, length-take-le a xs (omega arith)) in
     ap (put_mid a (a + length more - a) xs) e
     ∙ sym (append_assoc (take a xs) more _)
     ∙ ap (λ l. (take a xs ++ more) ++ l) (drop-drop (a + length more - a) a xs ∙ ap (λ n. drop n xs) (sym long))
 
 -- what is written behind a text that was written
-pub fronted-more : (out out₁ xs ys : List ℕ) (n : ℕ) → out₁ ≡ fronted xs out → n ≡ length xs → fronted (take n out₁ ++ ys) out₁ ≡ fronted (xs ++ ys) out
-fronted-more out out₁ xs ys n e size =
+pub fronted_more : (out out₁ xs ys : List ℕ) (n : ℕ) → out₁ ≡ fronted xs out → n ≡ length xs → fronted (take n out₁ ++ ys) out₁ ≡ fronted (xs ++ ys) out
+fronted_more out out₁ xs ys n e size =
     let front : take n out₁ ≡ xs = ap (take n) e ∙ take_at xs _ n (sym size) in
     let both = length-append xs ys in
     let rest : drop (length (xs ++ ys)) (xs ++ drop (length xs) out) ≡ drop (length (xs ++ ys)) out =
@@ -28,51 +28,51 @@ fronted-more out out₁ xs ys n e size =
     (λ i. fronted (front i ++ ys) (e i)) ∙ ap (λ l. (xs ++ ys) ++ l) rest
 
 -- a text that went to the front of a buffer, and one that did not
-pub goes_in : (xs out : List ℕ) (n : ℕ) (out₁ : List ℕ) → n ≡ length xs → out₁ ≡ fronted xs out → length xs ≤ length out → (Some n ≡ length-in (Some xs) (length out)) × (out₁ ≡ buffer-with (Some xs) out)
+pub goes_in : (xs out : List ℕ) (n : ℕ) (out₁ : List ℕ) → n ≡ length xs → out₁ ≡ fronted xs out → length xs ≤ length out → (Some n ≡ length_in (Some xs) (length out)) × (out₁ ≡ buffer_with (Some xs) out)
 goes_in xs out n out₁ size bytes h =
     let yes : leb (length xs) (length out) ≡ true = le-leb _ _ h in
     (ap Some size ∙ sym (cond-true _ _ _ yes), bytes ∙ sym (cond-true _ _ _ yes))
 
-pub stays_out : (xs out : List ℕ) → length out < length xs → (None ≡ length-in (Some xs) (length out)) × (out ≡ buffer-with (Some xs) out)
+pub stays_out : (xs out : List ℕ) → length out < length xs → (None ≡ length_in (Some xs) (length out)) × (out ≡ buffer_with (Some xs) out)
 stays_out xs out h =
     let less : leb (length xs) (length out) ≡ false = lt-leb _ _ h in
     (sym (cond-false _ _ _ less), sym (cond-false _ _ _ less))
 
 -- a text that is a front of its buffer is there already
-pub is-there : (out xs : List ℕ) (n m : ℕ) → n ≤ m → m ≤ length out → xs ≡ take n (take m out) → (Some n ≡ length-in (Some xs) (length out)) × (out ≡ buffer-with (Some xs) out)
-is-there out xs n m h k e =
+pub is_there : (out xs : List ℕ) (n m : ℕ) → n ≤ m → m ≤ length out → xs ≡ take n (take m out) → (Some n ≡ length_in (Some xs) (length out)) × (out ≡ buffer_with (Some xs) out)
+is_there out xs n m h k e =
     let same : xs ≡ take n out = e ∙ take-take n m out h in
     let long : n ≡ length xs = sym (ap length same ∙ length-take-le n out (omega arith)) in
     goes_in xs out n out long (sym (take-append-drop n out) ∙ (λ i. sym same i ++ drop (long i) out)) (omega arith)
 
 -- which way a test went, by the answer
-cond-some : (b : Bool) (m n : ℕ) → Some n ≡ cond b (Some m) None → (b ≡ true) × (n ≡ m)
-cond-some true m n e = (refl, cc)
-cond-some false m n e = absurd (some≢none e)
+cond_some : (b : Bool) (m n : ℕ) → Some n ≡ cond b (Some m) None → (b ≡ true) × (n ≡ m)
+cond_some true m n e = (refl, cc)
+cond_some false m n e = absurd (some≢none e)
 
-cond-none : (b : Bool) (m : ℕ) → None ≡ cond b (Some m) None → b ≡ false
-cond-none true m e = absurd (some≢none (sym e))
-cond-none false m e = refl
+cond_none : (b : Bool) (m : ℕ) → None ≡ cond b (Some m) None → b ≡ false
+cond_none true m e = absurd (some≢none (sym e))
+cond_none false m e = refl
 
 -- a text that went into a buffer
-pub went-in : (xs out out₁ : List ℕ) (n : ℕ) → Some n ≡ length-in (Some xs) (length out) → out₁ ≡ buffer-with (Some xs) out → (take n out₁ ≡ xs) × (n ≡ length xs) × (length xs ≤ length out)
-went-in xs out out₁ n e w =
-    let way = cond-some (leb (length xs) (length out)) (length xs) n e in
+pub went_in : (xs out out₁ : List ℕ) (n : ℕ) → Some n ≡ length_in (Some xs) (length out) → out₁ ≡ buffer_with (Some xs) out → (take n out₁ ≡ xs) × (n ≡ length xs) × (length xs ≤ length out)
+went_in xs out out₁ n e w =
+    let way = cond_some (leb (length xs) (length out)) (length xs) n e in
     (ap (take n) (w ∙ cond-true _ _ _ way.0) ∙ take_at xs _ n (sym way.1), way.1, leb-true _ _ way.0)
 
-pub went-out : (xs : List ℕ) (n : ℕ) → None ≡ length-in (Some xs) n → n < length xs
-went-out xs n e = leb-false _ _ (cond-none (leb (length xs) n) (length xs) e)
+pub went_out : (xs : List ℕ) (n : ℕ) → None ≡ length_in (Some xs) n → n < length xs
+went_out xs n e = leb-false _ _ (cond_none (leb (length xs) n) (length xs) e)
 
 -- what a copied text leaves in a buffer
-pub copied-in : (s out : List ℕ) → text_in (length-in (Some s) (length out)) (buffer-with (Some s) out) ≡ cond (leb (length s) (length out)) (Some s) None
-copied-in s out = at (leb (length s) (length out)) refl
+pub copied_in : (s out : List ℕ) → text_in (length_in (Some s) (length out)) (buffer_with (Some s) out) ≡ cond (leb (length s) (length out)) (Some s) None
+copied_in s out = at (leb (length s) (length out)) refl
   where
     at : (v : Bool) → leb (length s) (length out) ≡ v → text_in (cond v (Some (length s)) None) (cond v (fronted s out) out) ≡ cond v (Some s) None
     at true e = ap Some (take_at s (drop (length s) out) (length s) refl)
     at false e = refl
 
-pub copied-within : (s : List ℕ) (n : ℕ) → IfSome (length-in (Some s) n) (λ k. k ≤ n)
-copied-within s n = at (leb (length s) n) refl
+pub copied_within : (s : List ℕ) (n : ℕ) → IfSome (length_in (Some s) n) (λ k. k ≤ n)
+copied_within s n = at (leb (length s) n) refl
   where
     at : (v : Bool) → leb (length s) n ≡ v → IfSome (cond v (Some (length s)) None) (λ k. k ≤ n)
     at true e = leb-true (length s) n e
@@ -81,30 +81,30 @@ copied-within s n = at (leb (length s) n) refl
 -- a text made in a work buffer and then copied out
 module _ (made : Option Text) (work out : List ℕ) where
   pub handed_out : (len : ℕ) → text_in (Some len) work ≡ made
-      → (length-in (Some (take (len - 0) work)) (length out) ≡ length-in made (length out)) × (buffer-with (Some (take (len - 0) work)) out ≡ buffer-with made out)
+      → (length_in (Some (take (len - 0) work)) (length out) ≡ length_in made (length out)) × (buffer_with (Some (take (len - 0) work)) out ≡ buffer_with made out)
   handed_out len e =
       let from : len - 0 ≡ len = omega arith in
       let same : Some (take (len - 0) work) ≡ made = ap (λ (n : ℕ). Some (take n work)) from ∙ e in
-      (ap (λ (o : Option Text). length-in o (length out)) same, ap (λ (o : Option Text). buffer-with o out) same)
+      (ap (λ (o : Option Text). length_in o (length out)) same, ap (λ (o : Option Text). buffer_with o out) same)
 
-  pub refused : text_in None work ≡ made → (None ≡ length-in made (length out)) × (out ≡ buffer-with made out)
-  refused e = (ap (λ (o : Option Text). length-in o (length out)) e, ap (λ (o : Option Text). buffer-with o out) e)
+  pub refused : text_in None work ≡ made → (None ≡ length_in made (length out)) × (out ≡ buffer_with made out)
+  refused e = (ap (λ (o : Option Text). length_in o (length out)) e, ap (λ (o : Option Text). buffer_with o out) e)
 
 -- a text written behind the first n bytes, or refused
 module _ (n : ℕ) (out more : List ℕ) where
-  appended-is : n ≤ length out → appended n out more ≡ Some (take n out ++ more)
-  appended-is h = cond-true _ _ _ (le-leb n (length out) h)
+  appended_is : n ≤ length out → appended n out more ≡ Some (take n out ++ more)
+  appended_is h = cond-true _ _ _ (le-leb n (length out) h)
 
-  pub appended-in : (ys : List ℕ) → n + length more ≤ length out → ys ≡ more
-      → (Some (n + length more) ≡ length-in (appended n out more) (length out)) × (put_mid n (n + length more - n) out ys ≡ buffer-with (appended n out more) out)
-  appended-in ys h e =
-      let is = appended-is (omega arith) in
+  pub appended_in : (ys : List ℕ) → n + length more ≤ length out → ys ≡ more
+      → (Some (n + length more) ≡ length_in (appended n out more) (length out)) × (put_mid n (n + length more - n) out ys ≡ buffer_with (appended n out more) out)
+  appended_in ys h e =
+      let is = appended_is (omega arith) in
       let size : n + length more ≡ length (take n out ++ more) = omega (arith, length-append (take n out) more, length-take-le n out (omega arith)) in
-      let g = goes_in (take n out ++ more) out (n + length more) (put_mid n (n + length more - n) out ys) size (append-is out ys more n e h) (omega arith) in
-      (g.0 ∙ ap (λ (o : Option Text). length-in o (length out)) (sym is), g.1 ∙ ap (λ (o : Option Text). buffer-with o out) (sym is))
+      let g = goes_in (take n out ++ more) out (n + length more) (put_mid n (n + length more - n) out ys) size (append_is out ys more n e h) (omega arith) in
+      (g.0 ∙ ap (λ (o : Option Text). length_in o (length out)) (sym is), g.1 ∙ ap (λ (o : Option Text). buffer_with o out) (sym is))
 
-  pub appended-out : n ≤ length out → length out < n + length more → (None ≡ length-in (appended n out more) (length out)) × (out ≡ buffer-with (appended n out more) out)
-  appended-out h k =
-      let is = appended-is h in
+  pub appended_out : n ≤ length out → length out < n + length more → (None ≡ length_in (appended n out more) (length out)) × (out ≡ buffer_with (appended n out more) out)
+  appended_out h k =
+      let is = appended_is h in
       let g = stays_out (take n out ++ more) out (omega (arith, length-append (take n out) more, length-take-le n out h)) in
-      (g.0 ∙ ap (λ (o : Option Text). length-in o (length out)) (sym is), g.1 ∙ ap (λ (o : Option Text). buffer-with o out) (sym is))
+      (g.0 ∙ ap (λ (o : Option Text). length_in o (length out)) (sym is), g.1 ∙ ap (λ (o : Option Text). buffer_with o out) (sym is))

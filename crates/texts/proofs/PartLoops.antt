@@ -7,107 +7,107 @@ use Rattle.std.proofs.lemmas.Slice.{first_rest}
 use Rattle.std.proofs.lemmas.Bool.{and_left, not-false, not-true, cond-true, cond-false, lt-ltb, le-ltb, ne_eqb}
 use Rattle.texts.specs.declared.place.Place.{Place}
 use Rattle.texts.specs.Texts.{Text, SLASH, empty, until}
-use Rattle.texts.specs.Parts.{Mark, pieces, clean-pieces, named, every, texts-of, place_of, same_parts}
-use Rattle.texts.specs.Walks.{first-place, first-text, but_first}
-use Rattle.texts.proofs.Scans.{others, pieces-slash, pieces-split}
+use Rattle.texts.specs.Parts.{Mark, pieces, clean_pieces, named, every, texts_of, place_of, same_parts}
+use Rattle.texts.specs.Walks.{first_place, first_text, but_first}
+use Rattle.texts.proofs.Scans.{others, pieces_slash, pieces_split}
 
 pub some≢none : {X : Type 0} {x : X} → Some x ≡ None → ⊥
 some≢none {X} {x} e = let z : ◌≡◌ {A = ℕ} 0 1 = cc in omega arith
 
 -- the piece at `start` is a name, and so are the others
 module _ (t : Text) (start len : ℕ) (inside : start ≤ length t) (size : len ≡ until SLASH (drop start t)) where
-  names-split : every named (pieces (drop start t)) ≡ (named (take len (drop start t)) && every named (others (drop start t)))
-  names-split = ap (every named) (pieces-split (drop start t)) ∙ ap (λ (n : ℕ). named (take n (drop start t)) && every named (others (drop start t))) (sym size)
+  names_split : every named (pieces (drop start t)) ≡ (named (take len (drop start t)) && every named (others (drop start t)))
+  names_split = ap (every named) (pieces_split (drop start t)) ∙ ap (λ (n : ℕ). named (take n (drop start t)) && every named (others (drop start t))) (sym size)
 
   pub names_more : start + len < length t → named (take len (drop start t)) ≡ true → every named (pieces (drop start t)) ≡ every named (pieces (drop (start + len + 1) t))
   names_more more name =
       let next : start + (until SLASH (drop start t) + 1) ≡ start + len + 1 = omega (arith, size) in
-      names-split
+      names_split
       ∙ ap (λ (v : Bool). v && every named (others (drop start t))) name
       ∙ ap (every named) (cond-true _ _ _ (lt-ltb (until SLASH (drop start t)) (length (drop start t)) (omega (arith, size, length-drop start t))) ∙ ap pieces (drop-drop (until SLASH (drop start t) + 1) start t ∙ ap (λ (n : ℕ). drop n t) next))
 
-  pub names-all : length t ≤ start + len → named (take len (drop start t)) ≡ true → every named (pieces (drop start t)) ≡ true
-  names-all last name =
-      names-split
+  pub names_all : length t ≤ start + len → named (take len (drop start t)) ≡ true → every named (pieces (drop start t)) ≡ true
+  names_all last name =
+      names_split
       ∙ ap (λ (v : Bool). v && every named (others (drop start t))) name
       ∙ ap (every named) (cond-false _ _ _ (le-ltb (until SLASH (drop start t)) (length (drop start t)) (omega (arith, size, length-drop start t))))
 
-  pub names-not : named (take len (drop start t)) ≡ false → every named (pieces (drop start t)) ≡ false
-  names-not name = names-split ∙ ap (λ (v : Bool). v && every named (others (drop start t))) name
+  pub names_not : named (take len (drop start t)) ≡ false → every named (pieces (drop start t)) ≡ false
+  names_not name = names_split ∙ ap (λ (v : Bool). v && every named (others (drop start t))) name
 
 -- a slash leads a clean path, and names follow
-pub rooted-names : (s : Text) → clean-pieces (pieces (SLASH ∷ s)) ≡ every named (pieces s)
-rooted-names s = ap clean-pieces (pieces-slash s ∙ ap (λ (ps : List Text). [] ∷ ps) (pieces-split s)) ∙ ap (every named) (sym (pieces-split s))
+pub rooted_names : (s : Text) → clean_pieces (pieces (SLASH ∷ s)) ≡ every named (pieces s)
+rooted_names s = ap clean_pieces (pieces_slash s ∙ ap (λ (ps : List Text). [] ∷ ps) (pieces_split s)) ∙ ap (every named) (sym (pieces_split s))
 
-pub unrooted : (t : Text) → (0 < length t → get_or t 0 0 ≡ SLASH → ⊥) → clean-pieces (pieces t) ≡ false
-unrooted t other = ap clean-pieces (pieces-split t) ∙ at (others t) (take (until SLASH t) t) (λ h. first_some t other h)
+pub unrooted : (t : Text) → (0 < length t → get_or t 0 0 ≡ SLASH → ⊥) → clean_pieces (pieces t) ≡ false
+unrooted t other = ap clean_pieces (pieces_split t) ∙ at (others t) (take (until SLASH t) t) (λ h. first_some t other h)
   where
     first_some : (s : Text) → (0 < length s → get_or s 0 0 ≡ SLASH → ⊥) → 0 < length (others s) → empty (take (until SLASH s) s) ≡ false
     first_some [] differs h = absurd (omega arith)
     first_some (b ∷ s) differs h = ap (λ (v : Bool). empty (take (cond v 0 (suc (until SLASH s))) (b ∷ s))) (ne_eqb b SLASH (differs (omega arith)))
 
-    at : (ps : List Text) (p : Text) → (0 < length ps → empty p ≡ false) → clean-pieces (p ∷ ps) ≡ false
+    at : (ps : List Text) (p : Text) → (0 < length ps → empty p ≡ false) → clean_pieces (p ∷ ps) ≡ false
     at [] p h = refl
     at (q ∷ ps) p h = and_left _ _ (h (omega arith))
 
 -- two scans side by side
-same-on : (ms ns : List Mark) (p q : Text) → Some p ≡ first-text ms → Some q ≡ first-text ns → same_parts (texts-of ms) (texts-of ns) ≡ (bytes_eq p q && same_parts (texts-of (but_first ms)) (texts-of (but_first ns)))
-same-on [] ns p q e f = absurd (some≢none e)
-same-on (m ∷ ms) [] p q e f = absurd (some≢none f)
-same-on (m ∷ ms) (n ∷ ns) p q e f =
+same_on : (ms ns : List Mark) (p q : Text) → Some p ≡ first_text ms → Some q ≡ first_text ns → same_parts (texts_of ms) (texts_of ns) ≡ (bytes_eq p q && same_parts (texts_of (but_first ms)) (texts_of (but_first ns)))
+same_on [] ns p q e f = absurd (some≢none e)
+same_on (m ∷ ms) [] p q e f = absurd (some≢none f)
+same_on (m ∷ ms) (n ∷ ns) p q e f =
     let e' : m.0 ≡ p = cc in
     let f' : n.0 ≡ q = cc in
-    λ i. bytes_eq (e' i) (f' i) && same_parts (texts-of ms) (texts-of ns)
+    λ i. bytes_eq (e' i) (f' i) && same_parts (texts_of ms) (texts_of ns)
 
-pub same-longer : (ms ns : List Mark) (p : Text) → Some p ≡ first-text ms → None ≡ first-place ns → same_parts (texts-of ms) (texts-of ns) ≡ false
-same-longer [] ns p e f = absurd (some≢none e)
-same-longer (m ∷ ms) [] p e f = refl
-same-longer (m ∷ ms) (n ∷ ns) p e f = absurd (some≢none (sym f))
+pub same_longer : (ms ns : List Mark) (p : Text) → Some p ≡ first_text ms → None ≡ first_place ns → same_parts (texts_of ms) (texts_of ns) ≡ false
+same_longer [] ns p e f = absurd (some≢none e)
+same_longer (m ∷ ms) [] p e f = refl
+same_longer (m ∷ ms) (n ∷ ns) p e f = absurd (some≢none (sym f))
 
-pub same_ends : (ms ns : List Mark) (r : Option Place) (none : Bool) → None ≡ first-place ms → r ≡ first-place ns → not none ≡ is_some r → none ≡ same_parts (texts-of ms) (texts-of ns)
+pub same_ends : (ms ns : List Mark) (r : Option Place) (none : Bool) → None ≡ first_place ms → r ≡ first_place ns → not none ≡ is_some r → none ≡ same_parts (texts_of ms) (texts_of ns)
 same_ends [] [] r none e f t = not-false none (t ∙ ap is_some f)
 same_ends [] (n ∷ ns) r none e f t = not-true none (t ∙ ap is_some f)
 same_ends (m ∷ ms) ns r none e f t = absurd (some≢none (sym e))
 
-module _ (ms ns : List Mark) (p q : Text) (e : Some p ≡ first-text ms) (f : Some q ≡ first-text ns) (r : Bool) (tested : r ≡ bytes_eq p q) where
-  pub same_differs : r ≡ false → same_parts (texts-of ms) (texts-of ns) ≡ false
-  same_differs no-match = same-on ms ns p q e f ∙ ap (λ (v : Bool). v && same_parts (texts-of (but_first ms)) (texts-of (but_first ns))) (sym tested ∙ no-match)
+module _ (ms ns : List Mark) (p q : Text) (e : Some p ≡ first_text ms) (f : Some q ≡ first_text ns) (r : Bool) (tested : r ≡ bytes_eq p q) where
+  pub same_differs : r ≡ false → same_parts (texts_of ms) (texts_of ns) ≡ false
+  same_differs no_match = same_on ms ns p q e f ∙ ap (λ (v : Bool). v && same_parts (texts_of (but_first ms)) (texts_of (but_first ns))) (sym tested ∙ no_match)
 
-  pub same-goes-on : r ≡ true → same_parts (texts-of ms) (texts-of ns) ≡ same_parts (texts-of (but_first ms)) (texts-of (but_first ns))
-  same-goes-on match = same-on ms ns p q e f ∙ ap (λ (v : Bool). v && same_parts (texts-of (but_first ms)) (texts-of (but_first ns))) (sym tested ∙ match)
+  pub same_goes_on : r ≡ true → same_parts (texts_of ms) (texts_of ns) ≡ same_parts (texts_of (but_first ms)) (texts_of (but_first ns))
+  same_goes_on match = same_on ms ns p q e f ∙ ap (λ (v : Bool). v && same_parts (texts_of (but_first ms)) (texts_of (but_first ns))) (sym tested ∙ match)
 
 -- the parts that are left, one less
-pub one_less : (ms : List Mark) (p : Place) → Some p ≡ first-place ms → map place_of ms ≡ p ∷ map place_of (but_first ms)
+pub one_less : (ms : List Mark) (p : Place) → Some p ≡ first_place ms → map place_of ms ≡ p ∷ map place_of (but_first ms)
 one_less [] p e = absurd (some≢none e)
 one_less (m ∷ ms) p e = let e' : place_of m ≡ p = cc in ap (λ (q : Place). q ∷ map place_of ms) e'
 
-pub none_left : (ms : List Mark) → None ≡ first-place ms → ms ≡ []
+pub none_left : (ms : List Mark) → None ≡ first_place ms → ms ≡ []
 none_left [] e = refl
 none_left (m ∷ ms) e = absurd (some≢none (sym e))
 
 -- the same of a text that is taken apart into its first byte and the rest
-pub rooted-split : (t : Text) → 0 < length t → get_or t 0 0 ≡ SLASH → every named (pieces (between 1 (length t) t)) ≡ clean-pieces (pieces t)
-rooted-split t some slash =
-    sym (rooted-names (between 1 (length t) t))
-    ∙ ap (λ (b : ℕ). clean-pieces (pieces (b ∷ between 1 (length t) t))) (sym slash)
-    ∙ ap (λ (s : Text). clean-pieces (pieces s)) (sym (first_rest t 0 some))
+pub rooted_split : (t : Text) → 0 < length t → get_or t 0 0 ≡ SLASH → every named (pieces (between 1 (length t) t)) ≡ clean_pieces (pieces t)
+rooted_split t some slash =
+    sym (rooted_names (between 1 (length t) t))
+    ∙ ap (λ (b : ℕ). clean_pieces (pieces (b ∷ between 1 (length t) t))) (sym slash)
+    ∙ ap (λ (s : Text). clean_pieces (pieces s)) (sym (first_rest t 0 some))
 
 -- parts pushed on a stack that had `had`, of which `ps` are still to come and `all` will have come
 module _ (had held ps all : List Place) (inv : held ++ ps ≡ had ++ all) (kept : length had ≤ length held) where
-  pub push-done : ps ≡ [] → held ≡ had ++ all
-  push-done none = sym (append-nil held) ∙ ap (λ (qs : List Place). held ++ qs) (sym none) ∙ inv
+  pub push_done : ps ≡ [] → held ≡ had ++ all
+  push_done none = sym (append-nil held) ∙ ap (λ (qs : List Place). held ++ qs) (sym none) ∙ inv
 
-  pub push-counts : length held + length ps ≡ length had + length all
-  push-counts = sym (length-append held ps) ∙ ap length inv ∙ length-append had all
+  pub push_counts : length held + length ps ≡ length had + length all
+  push_counts = sym (length-append held ps) ∙ ap length inv ∙ length-append had all
 
-  pub push-undone : take (length had) held ≡ had
-  push-undone =
+  pub push_undone : take (length had) held ≡ had
+  push_undone =
       sym (take-append-le (length had) held ps kept)
       ∙ ap (take (length had)) inv
       ∙ take_at had all (length had) refl
 
-  pub push-more : (p : Place) (rest held' : List Place) → ps ≡ p ∷ rest → held' ≡ held ++ p ∷ [] → held' ++ rest ≡ had ++ all
-  push-more p rest held' e h =
+  pub push_more : (p : Place) (rest held' : List Place) → ps ≡ p ∷ rest → held' ≡ held ++ p ∷ [] → held' ++ rest ≡ had ++ all
+  push_more p rest held' e h =
       ap (λ (qs : List Place). qs ++ rest) h
       ∙ append_assoc held (p ∷ []) rest
       ∙ ap (λ (qs : List Place). held ++ qs) (sym e)

@@ -54,12 +54,12 @@ headed (m ∷ n ∷ ms) = cond (empty m.0) ((root, 1) ∷ inner (n ∷ ms)) (m �
 unfoldable pub marks : Text → List Mark
 marks s = headed (placed 0 (pieces s))
 
-abbrev pub texts-of : List Mark → List Text
-texts-of ms = map (λ m. m.0) ms
+abbrev pub texts_of : List Mark → List Text
+texts_of ms = map (λ m. m.0) ms
 
 -- the parts of a text: the pieces between slashes without empty ones and `.`; a leading slash is a part, and a leading `.` with no slash before it is kept
 unfoldable pub parts : Text → List Text
-parts s = texts-of (marks s)
+parts s = texts_of (marks s)
 
 -- where a part stands
 abbrev pub place_of : Mark → Place
@@ -89,22 +89,22 @@ every f (p ∷ ps) = f p && every f ps
 abbrev pub named : Text → Bool
 named p = solid p && not (bytes_eq p above)
 
-abbrev pub clean-pieces : List Text → Bool
-clean-pieces [] = false
-clean-pieces (p ∷ []) = false
-clean-pieces (p ∷ q ∷ ps) = empty p && every named (q ∷ ps)
+abbrev pub clean_pieces : List Text → Bool
+clean_pieces [] = false
+clean_pieces (p ∷ []) = false
+clean_pieces (p ∷ q ∷ ps) = empty p && every named (q ∷ ps)
 
 -- a clean path begins with a slash, has no empty, `.` or `..` piece, and ends in a slash only if it is `/`
 unfoldable pub clean : Text → Bool
-clean s = cond (bytes_eq s root) true (clean-pieces (pieces s))
+clean s = cond (bytes_eq s root) true (clean_pieces (pieces s))
 
 -- names with a slash between each and the next
-abbrev pub slash-between : List Text → Text
-slash-between [] = []
-slash-between (p ∷ []) = p
-slash-between (p ∷ q ∷ ps) = p ++ (SLASH ∷ slash-between (q ∷ ps))
+abbrev pub slash_between : List Text → Text
+slash_between [] = []
+slash_between (p ∷ []) = p
+slash_between (p ∷ q ∷ ps) = p ++ (SLASH ∷ slash_between (q ∷ ps))
 
 -- parts written with slashes: the root is its own slash
 abbrev pub written : List Text → Text
 written [] = []
-written (p ∷ ps) = cond (bytes_eq p root) (SLASH ∷ slash-between ps) (slash-between (p ∷ ps))
+written (p ∷ ps) = cond (bytes_eq p root) (SLASH ∷ slash_between ps) (slash_between (p ∷ ps))

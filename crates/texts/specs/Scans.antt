@@ -5,8 +5,8 @@ use Rattle.texts.specs.Texts.{Text, SLASH}
 use Rattle.texts.specs.Parts.{Mark, root, pieces, placed, inner, marks, text_at}
 
 -- the parts from a place on: all from 0, else those behind a slash
-abbrev pub marks-left : Text → ℕ → List Mark
-marks-left t at = cond (at == 0) (marks t) (inner (placed at (pieces (drop at t))))
+abbrev pub marks_left : Text → ℕ → List Mark
+marks_left t at = cond (at == 0) (marks t) (inner (placed at (pieces (drop at t))))
 
 -- a scan stands at the text's start or end, at a slash, or behind the root
 abbrev pub stands : Text → ℕ → Bool
@@ -17,8 +17,8 @@ pub record Next (t : Text) (at : ℕ) (p : Place) : Type 0 where
   pub low : at ≤ p.start
   pub some : 0 < p.len
   pub stop : stands t (p.start + p.len) ≡ true
-  pub is : marks-left t at ≡ (text_at t p, p.start + p.len) ∷ marks-left t (p.start + p.len)
+  pub is : marks_left t at ≡ (text_at t p, p.start + p.len) ∷ marks_left t (p.start + p.len)
 
 -- what stands behind a part that ended at n, as a path of its own: from its slash on, the root if nothing is left, and the whole text behind the root
-abbrev pub rest-text : Text → ℕ → Text
-rest-text t n = cond (nat_lt n (length t)) (cond (slice_index t n == SLASH) (drop n t) t) root
+abbrev pub rest_text : Text → ℕ → Text
+rest_text t n = cond (nat_lt n (length t)) (cond (slice_index t n == SLASH) (drop n t) t) root

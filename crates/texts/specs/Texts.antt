@@ -35,8 +35,8 @@ abbrev pub fits : Text → Bool
 fits s = nat_le (length s) 255
 
 -- what counts as a text: at most 255 bytes, each at most 127
-abbrev pub is-text : Text → Bool
-is-text s = fits s && ascii s
+abbrev pub is_text : Text → Bool
+is_text s = fits s && ascii s
 
 -- there is no byte
 abbrev pub empty : Text → Bool
@@ -69,14 +69,14 @@ abbrev pub fronted : Text → List ℕ → List ℕ
 fronted s out = s ++ drop (length s) out
 
 -- how long the text is that went to the front of a buffer of n bytes; none if there is no text or it is longer than the buffer
-abbrev pub length-in : Option Text → ℕ → Option ℕ
-length-in None n = None
-length-in (Some s) n = cond (nat_le (length s) n) (Some (length s)) None
+abbrev pub length_in : Option Text → ℕ → Option ℕ
+length_in None n = None
+length_in (Some s) n = cond (nat_le (length s) n) (Some (length s)) None
 
 -- and the buffer then: a text that is refused leaves it as it was
-abbrev pub buffer-with : Option Text → List ℕ → List ℕ
-buffer-with None out = out
-buffer-with (Some s) out = cond (nat_le (length s) (length out)) (fronted s out) out
+abbrev pub buffer_with : Option Text → List ℕ → List ℕ
+buffer_with None out = out
+buffer_with (Some s) out = cond (nat_le (length s) (length out)) (fronted s out) out
 
 -- the text of that length at the front of a buffer
 abbrev pub text_in : Option ℕ → List ℕ → Option Text

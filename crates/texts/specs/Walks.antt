@@ -4,7 +4,7 @@ use Rattle.texts.specs.declared.components.Components.{Components}
 use Rattle.texts.specs.declared.place.Place.{Place}
 use Rattle.texts.specs.Texts.{Text}
 use Rattle.texts.specs.Parts.{Mark, place_of, text_at}
-use Rattle.texts.specs.Scans.{marks-left}
+use Rattle.texts.specs.Scans.{marks_left}
 
 -- the text that is scanned
 abbrev pub subject : Components → Text
@@ -12,17 +12,17 @@ subject c = c.text.now
 
 -- the parts that are left, with their ends
 abbrev pub left : Components → List Mark
-left c = marks-left c.text.now c.at
+left c = marks_left c.text.now c.at
 
 -- the place of the first part of a list
-abbrev pub first-place : List Mark → Option Place
-first-place [] = None
-first-place (m ∷ ms) = Some (place_of m)
+abbrev pub first_place : List Mark → Option Place
+first_place [] = None
+first_place (m ∷ ms) = Some (place_of m)
 
 -- its bytes
-abbrev pub first-text : List Mark → Option Text
-first-text [] = None
-first-text (m ∷ ms) = Some m.0
+abbrev pub first_text : List Mark → Option Text
+first_text [] = None
+first_text (m ∷ ms) = Some m.0
 
 -- the other parts
 abbrev pub but_first : List Mark → List Mark
@@ -30,9 +30,9 @@ but_first [] = []
 but_first (m ∷ ms) = ms
 
 -- what stands at a place, if there is one
-abbrev pub places-to-text : Option Place → Text → Option Text
-places-to-text None t = None
-places-to-text (Some p) t = Some (text_at t p)
+abbrev pub places_to_text : Option Place → Text → Option Text
+places_to_text None t = None
+places_to_text (Some p) t = Some (text_at t p)
 
 -- a part was given
 abbrev pub begun : Components → Bool

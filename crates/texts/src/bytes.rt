@@ -1,7 +1,7 @@
 // A text by its bytes.
 ghost use Rattle.std.specs.Prelude.{◌≡◌, ◌≤◌, length, Some};
 ghost use Rattle.std.specs.Str.{bytes_eq};
-ghost use Rattle.texts.specs.Texts.{appended, ascii, is-text, printable, until, length-in, buffer-with, unslashed};
+ghost use Rattle.texts.specs.Texts.{appended, ascii, is_text, printable, until, length_in, buffer_with, unslashed};
 
 /// The longest text, in bytes.
 pub const MAX_LEN: usize = 255;
@@ -40,7 +40,7 @@ pub fn is_printable(text: &[u8]) -> bool
 
 /// Whether the bytes are a text: at most 255, each at most 127.
 pub fn is_text(text: &[u8]) -> bool
-    ensures short_and_ascii { result ≡ is-text text.now }
+    ensures short_and_ascii { result ≡ is_text text.now }
 {
     text.len() <= MAX_LEN && is_ascii(text)
 }
@@ -67,8 +67,8 @@ pub fn position(text: &[u8], byte: u8) -> usize
 
 /// Copies `text` to the front of `out` and says how long it is; a text that does not fit is refused, and `out` stays as it was.
 pub fn copy_text(text: &[u8], out: &mut [u8]) -> Option<usize>
-    ensures length_if_it_fits { result ≡ length-in (Some text.now) (length out.old) }
-    ensures bytes_beyond_stay { out.new ≡ buffer-with (Some text.now) out.old }
+    ensures length_if_it_fits { result ≡ length_in (Some text.now) (length out.old) }
+    ensures bytes_beyond_stay { out.new ≡ buffer_with (Some text.now) out.old }
 {
     let len = text.len();
     if len > out.len() {
@@ -80,8 +80,8 @@ pub fn copy_text(text: &[u8], out: &mut [u8]) -> Option<usize>
 
 /// Writes `more` behind the first `len` bytes of `out`, and says how many they are then; where there is no room, `out` stays as it was.
 pub fn append_text(out: &mut [u8], len: usize, more: &[u8]) -> Option<usize>
-    ensures length_if_it_fits { result ≡ length-in (appended len out.old more.now) (length out.old) }
-    ensures bytes_beyond_stay { out.new ≡ buffer-with (appended len out.old more.now) out.old }
+    ensures length_if_it_fits { result ≡ length_in (appended len out.old more.now) (length out.old) }
+    ensures bytes_beyond_stay { out.new ≡ buffer_with (appended len out.old more.now) out.old }
 {
     if len > out.len() {
         return None;

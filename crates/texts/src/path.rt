@@ -1,7 +1,7 @@
 // Paths: clean ones, and what their parts say.
 ghost use Rattle.std.specs.Prelude.{◌≡◌, ◌+◌, ◌<◌, ◌≤◌, true, ◌++◌, length, is_ok, if◌then◌else◌, nat_le};
 ghost use Rattle.stack.specs.Items.{items, capacity};
-ghost use Rattle.texts.specs.Parts.{clean, clean-pieces, every, named, parts, pieces, places, same_parts, written};
+ghost use Rattle.texts.specs.Parts.{clean, clean_pieces, every, named, parts, pieces, places, same_parts, written};
 
 use crate::bytes::same_bytes;
 use crate::components::Components;
@@ -30,7 +30,7 @@ fn names_only(text: &[u8]) -> bool
 
 // Whether a slash leads and every piece behind it is a name.
 fn is_rooted(text: &[u8]) -> bool
-    ensures names_behind_a_leading_slash { result ≡ clean-pieces (pieces text.now) }
+    ensures names_behind_a_leading_slash { result ≡ clean_pieces (pieces text.now) }
 {
     match text {
         [b'/', rest @ ..] => names_only(rest),

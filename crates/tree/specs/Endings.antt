@@ -5,5 +5,5 @@ use Rattle.texts.specs.Texts.{Text}
 use Rattle.tree.specs.declared.endings.Endings.{Endings}
 
 -- the endings in the order in which they were added
-abbrev pub endings-of : Endings → List Text
-endings-of s = map bytes_of (take s.count s.texts)
+abbrev pub endings_of : Endings → List Text
+endings_of s = map bytes_of (take s.count s.texts)

@@ -34,16 +34,16 @@ pub record Meaning : Type 0 where
 
 -- what a host can be asked
 pub data Question : Type 0 where
-  kind-of : Text → Question
-  manifest-of : Text → Question
-  lookup-of : Way → Text → Text → Question
+  kind_of : Text → Question
+  manifest_of : Text → Question
+  lookup_of : Way → Text → Text → Question
   forgetting : Question
 
 -- a path is a file
-abbrev pub is-file : Kind → Bool
-is-file Nothing = false
-is-file File = true
-is-file Directory = false
+abbrev pub is_file : Kind → Bool
+is_file Nothing = false
+is_file File = true
+is_file Directory = false
 
 -- the answer to the manifest question
 abbrev pub counted : Noted → answer.Manifest
@@ -64,20 +64,20 @@ answered missing n = Missing
 answered faulty n = Broken
 
 -- the path that was found
-abbrev pub path-found : Finding → Option Text
-path-found (found p) = Some p
-path-found missing = None
-path-found faulty = None
+abbrev pub path_found : Finding → Option Text
+path_found (found p) = Some p
+path_found missing = None
+path_found faulty = None
 
 -- a found path begins with a slash and has at most 255 bytes
-abbrev pub Found-well : Finding → Type 0
-Found-well (found p) = (begins SLASH p ≡ true) × (length p ≤ 255)
-Found-well missing = Unit {0}
-Found-well faulty = Unit {0}
+abbrev pub FoundWell : Finding → Type 0
+FoundWell (found p) = (begins SLASH p ≡ true) × (length p ≤ 255)
+FoundWell missing = Unit {0}
+FoundWell faulty = Unit {0}
 
 -- what every meaning keeps: the empty list is nothing, a manifest has at most 255 main texts of at most 32 bytes, found paths are well
 pub record Proper (m : Meaning) : Type 0 where
   pub nowhere : m.kind [] ≡ Nothing
-  pub few-mains : (p : Path) → length (mains (m.manifest p)) ≤ 255
-  pub short-mains : (p : Path) → AllByRecursion (λ t. length t ≤ 32) (mains (m.manifest p))
-  pub found-well : (w : Way) (request : Text) (dir : Path) → Found-well (m.lookup w request dir)
+  pub few_mains : (p : Path) → length (mains (m.manifest p)) ≤ 255
+  pub short_mains : (p : Path) → AllByRecursion (λ t. length t ≤ 32) (mains (m.manifest p))
+  pub found_well : (w : Way) (request : Text) (dir : Path) → FoundWell (m.lookup w request dir)

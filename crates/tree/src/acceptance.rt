@@ -2,7 +2,7 @@
 ghost use Rattle.std.specs.Prelude.{◌≡◌, map};
 ghost use Rattle.texts.specs.Held.{bytes_of};
 ghost use Rattle.tree.specs.Acceptances.{acceptable, unrestricted};
-ghost use Rattle.tree.specs.Meanings.{kind-of};
+ghost use Rattle.tree.specs.Meanings.{kind_of};
 
 use crate::answers::Kind;
 use crate::policy::Policy;
@@ -32,7 +32,7 @@ pub fn is_acceptable<T: FileTree, P: Policy>(
     ensures acceptable_by_definition { result ≡ acceptable (T.FileTree.meaning tree.old) (P.Policy.allowed policy.now) (map bytes_of restrictions.now) path.now }
     ensures same_meaning { T.FileTree.meaning tree.new ≡ T.FileTree.meaning tree.old }
     ensures still_sound { T.FileTree.sound tree.new }
-    ensures asked_once { T.FileTree.steps tree.old (kind-of path.now) tree.new }
+    ensures asked_once { T.FileTree.steps tree.old (kind_of path.now) tree.new }
 {
     match tree.kind(path) {
         Kind::File => policy.allows(path) && passes_restrictions(restrictions, path),

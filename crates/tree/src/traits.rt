@@ -1,10 +1,10 @@
 // A file tree, and a host: what every layer answers.
 ghost use Rattle.std.specs.Prelude.{◌≡◌, ℕ, length};
 ghost use Rattle.std.specs.Option.{option_map};
-ghost use Rattle.stack.specs.Items.{item-at};
+ghost use Rattle.stack.specs.Items.{item_at};
 ghost use Rattle.texts.specs.Parts.{parts};
-ghost use Rattle.texts.specs.Texts.{buffer-with};
-ghost use Rattle.tree.specs.Meanings.{Meaning, Proper, Question, answered, counted, forgetting, kind-of, lookup-of, mains, manifest-of, path-found};
+ghost use Rattle.texts.specs.Texts.{buffer_with};
+ghost use Rattle.tree.specs.Meanings.{Meaning, Proper, Question, answered, counted, forgetting, kind_of, lookup_of, mains, manifest_of, path_found};
 
 use crate::answers::{Kind, Lookup, Manifest, Way};
 
@@ -25,7 +25,7 @@ pub trait FileTree {
         ensures answer_by_the_meaning { result ≡ (meaning self.old).kind (parts path.now) }
         ensures same_meaning { meaning self.new ≡ meaning self.old }
         ensures still_sound { sound self.new }
-        ensures steps_on { steps self.old (kind-of path.now) self.new };
+        ensures steps_on { steps self.old (kind_of path.now) self.new };
 
     ghost proper: { (s : Self) → sound s → Proper (meaning s) };
 }
@@ -38,21 +38,21 @@ pub trait Host: FileTree {
         ensures answer_by_the_meaning { result ≡ counted ((Self.FileTree.meaning self.old).manifest (parts path.now)) }
         ensures same_meaning { Self.FileTree.meaning self.new ≡ Self.FileTree.meaning self.old }
         ensures still_sound { Self.FileTree.sound self.new }
-        ensures steps_on { Self.FileTree.steps self.old (manifest-of path.now) self.new };
+        ensures steps_on { Self.FileTree.steps self.old (manifest_of path.now) self.new };
 
     /// The main text at `i` of the manifest at `path`; none beyond the last.
     fn main_text(&self, path: &[u8], i: usize) -> Option<&[u8]>
         requires sound { Self.FileTree.sound self.now }
-        ensures main_text_in_its_place { option_map (λ x. x.now) result ≡ item-at (mains ((Self.FileTree.meaning self.now).manifest (parts path.now))) i };
+        ensures main_text_in_its_place { option_map (λ x. x.now) result ≡ item_at (mains ((Self.FileTree.meaning self.now).manifest (parts path.now))) i };
 
     /// Looks `request` up from `directory`. A path that is found is written to the front of `out`; one that does not fit `out` is missing, and `out` stays as it was.
     fn lookup(&mut self, way: Way, request: &[u8], directory: &[u8], out: &mut [u8]) -> Lookup
         requires sound { Self.FileTree.sound self.old }
         ensures answer_by_the_meaning { result ≡ answered ((Self.FileTree.meaning self.old).lookup way request.now (parts directory.now)) (length out.old) }
-        ensures path_in_front { out.new ≡ buffer-with (path-found ((Self.FileTree.meaning self.old).lookup way request.now (parts directory.now))) out.old }
+        ensures path_in_front { out.new ≡ buffer_with (path_found ((Self.FileTree.meaning self.old).lookup way request.now (parts directory.now))) out.old }
         ensures same_meaning { Self.FileTree.meaning self.new ≡ Self.FileTree.meaning self.old }
         ensures still_sound { Self.FileTree.sound self.new }
-        ensures steps_on { Self.FileTree.steps self.old (lookup-of way request.now directory.now) self.new };
+        ensures steps_on { Self.FileTree.steps self.old (lookup_of way request.now directory.now) self.new };
 
     /// Lets go of what is only kept to answer faster.
     fn forget(&mut self)

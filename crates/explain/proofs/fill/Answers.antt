@@ -2,7 +2,7 @@ use Rattle.std.proofs.Common.{◌+◌, ◌<◌, length, sym, ap, ◌∙◌, arit
 use Rattle.std.proofs.lemmas.List.{length-drop}
 use Rattle.std.proofs.lemmas.Bool.{eqb-false}
 use Rattle.texts.specs.Texts.{until}
-use Rattle.lines.specs.Sheets.{LINE-END}
+use Rattle.lines.specs.Sheets.{LINE_END}
 use Rattle.explain.proofs.fill.Goals as goal
 
 pub loop-line-smaller : goal.loop-line-smaller
@@ -10,5 +10,5 @@ loop-line-smaller c =
     let xs = c.loop-line.rest.now in
     let some = eqb-false (length xs) 0 (sym c.is_empty.ensures ∙ c.loop-line-test.true) in
     let less : length c.first_line.result.1.now < length xs =
-    omega (arith, some, ap length c.first_line.ensures.rest_behind_the_line_end, length-drop (until LINE-END xs + 1) xs) in
+    omega (arith, some, ap length c.first_line.ensures.rest_behind_the_line_end, length-drop (until LINE_END xs + 1) xs) in
     less

@@ -2,8 +2,8 @@
 ghost use Rattle.std.specs.Prelude.{◌≡◌};
 ghost use Rattle.listing.specs.Entries.{rows};
 ghost use Rattle.listing.specs.Meanings.{listed};
-ghost use Rattle.listing.specs.Kept.{listed-proper};
-ghost use Rattle.listing.specs.RowsLemmas.{few-lines};
+ghost use Rattle.listing.specs.Kept.{listed_proper};
+ghost use Rattle.listing.specs.RowsLemmas.{few_lines};
 
 use crate::kinds::{LineKind, Topic};
 use crate::listing::Listing;
@@ -17,7 +17,7 @@ impl FileTree for Listing {
 
     ghost steps = { λ s _ t. t ≡ s };
 
-    ghost proper = { λ s h. listed-proper (rows s) (few-lines s) s.fit };
+    ghost proper = { λ s h. listed_proper (rows s) (few_lines s) s.fit };
 
     fn kind(&mut self, path: &[u8]) -> Kind {
         match self.deciding_line(Topic::Kind, path) {

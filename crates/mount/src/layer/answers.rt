@@ -2,10 +2,10 @@
 ghost use Rattle.std.specs.Prelude.{◌≡◌, ◌≤◌, true, false, length, is_ok, MatchResult};
 ghost use Rattle.texts.specs.Held.{bytes_of};
 ghost use Rattle.texts.specs.Parts.{parts};
-ghost use Rattle.texts.specs.Texts.{buffer-with};
-ghost use Rattle.tree.specs.Meanings.{answered, found, path-found};
-ghost use Rattle.mount.specs.Mounts.{Routed, in-front, mountable, mounted};
-ghost use Rattle.mount.specs.Placed.{mounted-proper};
+ghost use Rattle.texts.specs.Texts.{buffer_with};
+ghost use Rattle.tree.specs.Meanings.{answered, found, path_found};
+ghost use Rattle.mount.specs.Mounts.{Routed, in_front, mountable, mounted};
+ghost use Rattle.mount.specs.Placed.{mounted_proper};
 
 use crate::below::below;
 use crate::layer::Mount;
@@ -24,8 +24,8 @@ fn is_mountable(at: &[u8]) -> bool
 // The path that was found with the mount in front of it, at the front of `out`; past 255 bytes it is missing.
 fn put_in_front(at: &[u8], path: &[u8], out: &mut [u8]) -> Lookup
     requires { length path.now ≤ 255 }
-    ensures found_if_the_whole_path_fits { result ≡ answered (in-front at.now (found path.now)) (length out.old) }
-    ensures path_in_front { out.new ≡ buffer-with (path-found (in-front at.now (found path.now))) out.old }
+    ensures found_if_the_whole_path_fits { result ≡ answered (in_front at.now (found path.now)) (length out.old) }
+    ensures path_in_front { out.new ≡ buffer_with (path_found (in_front at.now (found path.now))) out.old }
 {
     let mut whole = [0; 255];
     let Some(len) = copy_text(at, &mut whole) else {
@@ -65,7 +65,7 @@ impl<A: FileTree, B: FileTree> FileTree for Mount<A, B> {
 
     ghost steps = { λ s q t. Routed (parts (bytes_of s.at)) q (A.FileTree.steps s.first q t.first × (t.second ≡ s.second)) (λ r. (t.first ≡ s.first) × B.FileTree.steps s.second r t.second) (A.FileTree.steps s.first q t.first × B.FileTree.steps s.second q t.second) };
 
-    ghost proper = { λ s h. mounted-proper _ _ _ s.placed (A.FileTree.proper s.first h.0) (B.FileTree.proper s.second h.1) };
+    ghost proper = { λ s h. mounted_proper _ _ _ s.placed (A.FileTree.proper s.first h.0) (B.FileTree.proper s.second h.1) };
 
     fn kind(&mut self, path: &[u8]) -> Kind {
         match below(self.at.as_bytes(), path) {

@@ -1,7 +1,7 @@
 // A row of the alias table: made, given a value more, and read.
 ghost use Rattle.std.specs.Prelude.{◌≡◌, ◌≤◌, [], map, length, if◌then◌else◌, nat_lt};
 ghost use Rattle.texts.specs.Held.{bytes_of};
-ghost use Rattle.settings.specs.Rows.{alias-of, value_of};
+ghost use Rattle.settings.specs.Rows.{alias_of, value_of};
 ghost use Rattle.settings.specs.Tables.{labelled, with_value};
 
 use crate::row::{AliasRow, AliasValue};
@@ -13,7 +13,7 @@ const VALUES: usize = 4;
 impl AliasRow {
     // A label without values.
     pub(crate) fn new(label: Text<32>) -> AliasRow
-        ensures label_without_values { alias-of result ≡ labelled (bytes_of label) [] }
+        ensures label_without_values { alias_of result ≡ labelled (bytes_of label) [] }
     {
         AliasRow {
             label,
@@ -24,8 +24,8 @@ impl AliasRow {
 
     // One value more, behind the others; false, and no change, for a fifth.
     pub(crate) fn push(&mut self, value: AliasValue) -> bool
-        ensures room_for_four { result ≡ nat_lt (length (alias-of self.old).values) 4 }
-        ensures value_behind_the_others { alias-of self.new ≡ (if result then with_value (value_of value) (alias-of self.old) else alias-of self.old) }
+        ensures room_for_four { result ≡ nat_lt (length (alias_of self.old).values) 4 }
+        ensures value_behind_the_others { alias_of self.new ≡ (if result then with_value (value_of value) (alias_of self.old) else alias_of self.old) }
     {
         if self.count >= VALUES {
             return false;
@@ -37,14 +37,14 @@ impl AliasRow {
 
     /// The label, as it was written.
     pub fn label(&self) -> &[u8]
-        ensures label_as_written { result.now ≡ (alias-of self.now).label }
+        ensures label_as_written { result.now ≡ (alias_of self.now).label }
     {
         self.label.as_bytes()
     }
 
     /// The values, in the order written.
     pub fn values(&self) -> &[AliasValue]
-        ensures values_in_the_order_written { map value_of result.now ≡ (alias-of self.now).values }
+        ensures values_in_the_order_written { map value_of result.now ≡ (alias_of self.now).values }
         ensures at_most_four { length result.now ≤ 4 }
     {
         let all = &self.values[..];

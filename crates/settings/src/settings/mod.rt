@@ -3,8 +3,8 @@ ghost use Rattle.std.specs.Prelude.{◌≡◌, ◌≤◌, true, map, length, tak
 ghost use Rattle.stack.specs.Held.{held};
 ghost use Rattle.texts.specs.Held.{bytes_of};
 ghost use Rattle.texts.specs.Parts.{every};
-ghost use Rattle.settings.specs.Limits.{aliases_kept, extension-kept, main-file-kept, restriction-kept};
-ghost use Rattle.settings.specs.Rows.{alias-of};
+ghost use Rattle.settings.specs.Limits.{aliases_kept, extension_kept, main_file_kept, restriction_kept};
+ghost use Rattle.settings.specs.Rows.{alias_of};
 
 use crate::enforcement::EnforceExtension;
 use crate::row::AliasRow;
@@ -29,8 +29,8 @@ pub struct Settings {
     enforce_extension: EnforceExtension,
     ghost whole: { length rows ≡ 16 },
     ghost within: { count ≤ 16 },
-    ghost aliases_kept: { aliases_kept (map alias-of (take count rows)) ≡ true },
-    ghost extensions_kept: { every extension-kept (map bytes_of (held extensions)) ≡ true },
-    ghost main_files_kept: { every main-file-kept (map bytes_of (held main_files)) ≡ true },
-    ghost restrictions_kept: { every restriction-kept (map bytes_of (held restrictions)) ≡ true },
+    ghost aliases_kept: { aliases_kept (map alias_of (take count rows)) ≡ true },
+    ghost extensions_kept: { every extension_kept (map bytes_of (held extensions)) ≡ true },
+    ghost main_files_kept: { every main_file_kept (map bytes_of (held main_files)) ≡ true },
+    ghost restrictions_kept: { every restriction_kept (map bytes_of (held restrictions)) ≡ true },
 }

@@ -2,8 +2,8 @@
 ghost use Rattle.std.specs.Prelude.{◌≡◌, ◌≤◌, map, length};
 ghost use Rattle.texts.specs.Held.{bytes_of};
 ghost use Rattle.settings.specs.Meant.{tables};
-ghost use Rattle.settings.specs.Rows.{alias-of};
-ghost use Rattle.settings.specs.Tables.{enforced, some-empty};
+ghost use Rattle.settings.specs.Rows.{alias_of};
+ghost use Rattle.settings.specs.Tables.{enforced, some_empty};
 
 use crate::enforcement::EnforceExtension;
 use crate::row::AliasRow;
@@ -12,7 +12,7 @@ use texts::Text;
 
 // Whether one of the texts is empty.
 fn has_empty(texts: &[Text<12>]) -> bool
-    ensures one_of_them_is_empty { result ≡ some-empty (map bytes_of texts.now) }
+    ensures one_of_them_is_empty { result ≡ some_empty (map bytes_of texts.now) }
 {
     for i in 0..texts.len() {
         if texts[i].as_bytes().is_empty() {
@@ -25,7 +25,7 @@ fn has_empty(texts: &[Text<12>]) -> bool
 impl Settings {
     /// The labels with their values, in the order written.
     pub fn aliases(&self) -> &[AliasRow]
-        ensures labels_in_the_order_written { map alias-of result.now ≡ (tables self.now).aliases }
+        ensures labels_in_the_order_written { map alias_of result.now ≡ (tables self.now).aliases }
         ensures at_most_16 { length result.now ≤ 16 }
     {
         let all = &self.rows[..];

@@ -1,8 +1,8 @@
 // Which settings are refused, and why.
 ghost use Rattle.std.specs.Prelude.{◌≡◌, ◌<◌, length};
-ghost use Rattle.settings.specs.Entries.{full, last-values, refusal-of, too-early};
+ghost use Rattle.settings.specs.Entries.{full, last_values, refusal_of, too_early};
 ghost use Rattle.settings.specs.Meant.{tables};
-ghost use Rattle.settings.specs.Rows.{alias-of};
+ghost use Rattle.settings.specs.Rows.{alias_of};
 
 use crate::kinds::Setting;
 use crate::refusals::Refusal;
@@ -24,7 +24,7 @@ const RESTRICTIONS: usize = 4;
 impl Settings {
     // A value comes too early where no label stands before it.
     fn comes_too_early(&self, kind: Setting) -> bool
-        ensures value_before_its_label { result ≡ too-early kind (tables self.now) }
+        ensures value_before_its_label { result ≡ too_early kind (tables self.now) }
     {
         match kind {
             Setting::Value | Setting::Ignore => self.count == 0,
@@ -34,7 +34,7 @@ impl Settings {
 
     // How many values the last label has.
     fn last_count(&self) -> usize
-        ensures values_of_the_last_label { result ≡ length (last-values (tables self.now).aliases) }
+        ensures values_of_the_last_label { result ≡ length (last_values (tables self.now).aliases) }
     {
         if self.count == 0 {
             return 0;
@@ -45,7 +45,7 @@ impl Settings {
     // The row of the last label.
     fn last(&self) -> &AliasRow
         requires { 0 < self.now.count }
-        ensures row_of_the_last_label { last-values (tables self.now).aliases ≡ (alias-of result.now).values }
+        ensures row_of_the_last_label { last_values (tables self.now).aliases ≡ (alias_of result.now).values }
     {
         let rows = &self.rows[..];
         &rows[self.count - 1]
@@ -65,7 +65,7 @@ impl Settings {
 
     // Why a setting is refused: the first check that it fails.
     pub(crate) fn refusal(&self, kind: Setting, first: &[u8], second: &[u8]) -> Option<Refusal>
-        ensures first_check_that_fails { result ≡ refusal-of (tables self.now) kind first.now second.now }
+        ensures first_check_that_fails { result ≡ refusal_of (tables self.now) kind first.now second.now }
     {
         if self.comes_too_early(kind) {
             return Some(Refusal::ValueBeforeLabel);

@@ -1,7 +1,7 @@
 // Putting into a table what was not refused.
 ghost use Rattle.std.specs.Prelude.{◌≡◌, ◌<◌, true, false, length};
-ghost use Rattle.settings.specs.Entries.{full, to_last, too-early, with-aliases, with-entry};
-ghost use Rattle.settings.specs.Limits.{value-kept, well_written};
+ghost use Rattle.settings.specs.Entries.{full, to_last, too_early, with_aliases, with_entry};
+ghost use Rattle.settings.specs.Limits.{value_kept, well_written};
 ghost use Rattle.settings.specs.Meant.{tables};
 ghost use Rattle.settings.specs.Rows.{value_of};
 
@@ -15,7 +15,7 @@ impl Settings {
     pub(crate) fn push_alias(&mut self, label: &[u8])
         requires well_written { well_written Setting.Alias label.now ≡ true }
         requires room { full Setting.Alias (tables self.old) ≡ false }
-        ensures label_behind_the_others { tables self.new ≡ with-entry Setting.Alias label.now (tables self.old) }
+        ensures label_behind_the_others { tables self.new ≡ with_entry Setting.Alias label.now (tables self.old) }
     {
         let row = AliasRow::new(Text::new(label).unwrap());
         self.rows[self.count] = row;
@@ -24,10 +24,10 @@ impl Settings {
 
     // One value more at the last label, whose row alone changes.
     pub(crate) fn push_value(&mut self, value: AliasValue)
-        requires well_written { value-kept (value_of value) ≡ true }
-        requires label_before { too-early Setting.Value (tables self.old) ≡ false }
+        requires well_written { value_kept (value_of value) ≡ true }
+        requires label_before { too_early Setting.Value (tables self.old) ≡ false }
         requires room { full Setting.Value (tables self.old) ≡ false }
-        ensures value_at_the_last_label { tables self.new ≡ with-aliases (to_last (value_of value) (tables self.old).aliases) (tables self.old) }
+        ensures value_at_the_last_label { tables self.new ≡ with_aliases (to_last (value_of value) (tables self.old).aliases) (tables self.old) }
     {
         let last = self.count - 1;
         let rows = &mut self.rows[..];
@@ -37,9 +37,9 @@ impl Settings {
     // A text as a value of the last label.
     pub(crate) fn push_path(&mut self, value: &[u8])
         requires well_written { well_written Setting.Value value.now ≡ true }
-        requires label_before { too-early Setting.Value (tables self.old) ≡ false }
+        requires label_before { too_early Setting.Value (tables self.old) ≡ false }
         requires room { full Setting.Value (tables self.old) ≡ false }
-        ensures value_at_the_last_label { tables self.new ≡ with-entry Setting.Value value.now (tables self.old) }
+        ensures value_at_the_last_label { tables self.new ≡ with_entry Setting.Value value.now (tables self.old) }
     {
         self.push_value(AliasValue::Path(Text::new(value).unwrap()));
     }
@@ -48,7 +48,7 @@ impl Settings {
     pub(crate) fn push_extension(&mut self, extension: &[u8])
         requires well_written { well_written Setting.Extension extension.now ≡ true }
         requires room { full Setting.Extension (tables self.old) ≡ false }
-        ensures extension_behind_the_others { tables self.new ≡ with-entry Setting.Extension extension.now (tables self.old) }
+        ensures extension_behind_the_others { tables self.new ≡ with_entry Setting.Extension extension.now (tables self.old) }
     {
         let _ = self.extensions.push(Text::new(extension).unwrap());
     }
@@ -57,7 +57,7 @@ impl Settings {
     pub(crate) fn push_main_file(&mut self, name: &[u8])
         requires well_written { well_written Setting.MainFile name.now ≡ true }
         requires room { full Setting.MainFile (tables self.old) ≡ false }
-        ensures main_file_behind_the_others { tables self.new ≡ with-entry Setting.MainFile name.now (tables self.old) }
+        ensures main_file_behind_the_others { tables self.new ≡ with_entry Setting.MainFile name.now (tables self.old) }
     {
         let _ = self.main_files.push(Text::new(name).unwrap());
     }
@@ -66,7 +66,7 @@ impl Settings {
     pub(crate) fn push_restriction(&mut self, path: &[u8])
         requires well_written { well_written Setting.Restriction path.now ≡ true }
         requires room { full Setting.Restriction (tables self.old) ≡ false }
-        ensures restriction_behind_the_others { tables self.new ≡ with-entry Setting.Restriction path.now (tables self.old) }
+        ensures restriction_behind_the_others { tables self.new ≡ with_entry Setting.Restriction path.now (tables self.old) }
     {
         let _ = self.restrictions.push(Text::new(path).unwrap());
     }

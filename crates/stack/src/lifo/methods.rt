@@ -1,6 +1,6 @@
 // What a stack can be asked to do. No call has a `requires`: a full or empty stack is answered, never assumed away.
 ghost use Rattle.std.specs.Prelude.{◌≡◌, ℕ, ◌-◌, ◌<◌, [], ◌∷◌, ◌++◌, length, take, is_ok, if◌then◌else◌, nat_lt, slice_index_or};
-ghost use Rattle.stack.specs.Items.{items, capacity, item-at};
+ghost use Rattle.stack.specs.Items.{items, capacity, item_at};
 
 use crate::lifo::{Full, Stack};
 
@@ -44,7 +44,7 @@ impl<'a, T: Copy> Stack<'a, T> {
 
     /// Takes the top item off; an empty stack stays empty.
     pub fn pop(&mut self) -> Option<T>
-        ensures top_item { result ≡ item-at (items self.old) (length (items self.old) - 1) }
+        ensures top_item { result ≡ item_at (items self.old) (length (items self.old) - 1) }
         ensures items_after { items self.new ≡ take (length (items self.old) - 1) (items self.old) }
         ensures same_capacity { capacity self.new ≡ capacity self.old }
     {
@@ -57,7 +57,7 @@ impl<'a, T: Copy> Stack<'a, T> {
 
     /// The item at `i`, counted from the bottom; none beyond the top.
     pub fn get(&self, i: usize) -> Option<T>
-        ensures item_at_the_place { result ≡ item-at (items self.now) i }
+        ensures item_at_the_place { result ≡ item_at (items self.now) i }
     {
         if i >= self.len {
             return None;
@@ -67,7 +67,7 @@ impl<'a, T: Copy> Stack<'a, T> {
 
     /// The item on top, which stays there.
     pub fn top(&self) -> Option<T>
-        ensures top_item { result ≡ item-at (items self.now) (length (items self.now) - 1) }
+        ensures top_item { result ≡ item_at (items self.now) (length (items self.now) - 1) }
     {
         if self.len == 0 {
             return None;

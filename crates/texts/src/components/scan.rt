@@ -1,8 +1,8 @@
 // How a scan of a text finds its parts.
 ghost use Rattle.std.specs.Prelude.{◌≡◌, ◌<◌, ◌≤◌, true, [], ◌∷◌, length, MatchOption, OnSome};
-ghost use Rattle.texts.specs.Parts.{marks, parts, root, texts-of};
-ghost use Rattle.texts.specs.Scans.{marks-left, Next, rest-text};
-ghost use Rattle.texts.specs.Walks.{begun, left, subject, first-place, first-text, places-to-text, but_first};
+ghost use Rattle.texts.specs.Parts.{marks, parts, root, texts_of};
+ghost use Rattle.texts.specs.Scans.{marks_left, Next, rest_text};
+ghost use Rattle.texts.specs.Walks.{begun, left, subject, first_place, first_text, places_to_text, but_first};
 
 use crate::bytes::position;
 use crate::components::Components;
@@ -11,7 +11,7 @@ use crate::place::Place;
 
 // The first part: the leading slash or the first piece; an empty text has none.
 fn first_part(text: &[u8]) -> Option<Place>
-    ensures first_part_or_none_left { MatchOption result (marks-left text.now 0 ≡ []) (Next text.now 0) }
+    ensures first_part_or_none_left { MatchOption result (marks_left text.now 0 ≡ []) (Next text.now 0) }
 {
     match text {
         [] => None,
@@ -26,7 +26,7 @@ fn first_part(text: &[u8]) -> Option<Place>
 // The next part behind `at`, where an earlier one ended.
 fn later_part(text: &[u8], at: usize) -> Option<Place>
     requires { (0 < at) × (at ≤ length text.now) }
-    ensures next_part_or_none_left { MatchOption result (marks-left text.now at ≡ []) (Next text.now at) }
+    ensures next_part_or_none_left { MatchOption result (marks_left text.now at ≡ []) (Next text.now at) }
 {
     let mut start = at;
     loop {
@@ -46,7 +46,7 @@ fn later_part(text: &[u8], at: usize) -> Option<Place>
 // The next part from `at` on.
 fn next_part(text: &[u8], at: usize) -> Option<Place>
     requires { at ≤ length text.now }
-    ensures next_part_or_none_left { MatchOption result (marks-left text.now at ≡ []) (Next text.now at) }
+    ensures next_part_or_none_left { MatchOption result (marks_left text.now at ≡ []) (Next text.now at) }
 {
     if at == 0 {
         first_part(text)
@@ -66,8 +66,8 @@ impl<'a> Components<'a> {
 
     /// The place of the next part; none behind the last.
     pub fn next(&mut self) -> Option<Place>
-        ensures place_of_the_next_part { result ≡ first-place (left self.old) }
-        ensures part_stands_there { places-to-text result (subject self.old) ≡ first-text (left self.old) }
+        ensures place_of_the_next_part { result ≡ first_place (left self.old) }
+        ensures part_stands_there { places_to_text result (subject self.old) ≡ first_text (left self.old) }
         ensures others_are_left { left self.new ≡ but_first (left self.old) }
         ensures same_text { subject self.new ≡ subject self.old }
         ensures scan_has_begun { OnSome result (begun self.new ≡ true) }
@@ -79,8 +79,8 @@ impl<'a> Components<'a> {
 
     /// What stands behind the last part that was given, as a path of its own: what is left, below the root.
     pub fn rest(&self) -> &'a [u8]
-        ensures text_behind_the_part { result.now ≡ rest-text (subject self.now) self.now.at }
-        ensures parts_left_below_the_root { begun self.now ≡ true → parts result.now ≡ root ∷ texts-of (left self.now) }
+        ensures text_behind_the_part { result.now ≡ rest_text (subject self.now) self.now.at }
+        ensures parts_left_below_the_root { begun self.now ≡ true → parts result.now ≡ root ∷ texts_of (left self.now) }
     {
         let text = self.text;
         let at = self.at;

@@ -1,7 +1,7 @@
 // Adding an ending, and the test.
 ghost use Rattle.std.specs.Prelude.{◌≡◌, ◌&&◌, [], ◌∷◌, ◌++◌, length, if◌then◌else◌, nat_le, nat_lt};
-ghost use Rattle.tree.specs.Acceptances.{ends-in, ends-in-one};
-ghost use Rattle.tree.specs.Endings.{endings-of};
+ghost use Rattle.tree.specs.Acceptances.{ends_in, ends_in_one};
+ghost use Rattle.tree.specs.Endings.{endings_of};
 
 use crate::endings::Endings;
 use crate::policy::Policy;
@@ -11,7 +11,7 @@ const MAX_ENDINGS: usize = 4;
 
 // Whether `path` ends in `ending`.
 fn ends_in(ending: &[u8], path: &[u8]) -> bool
-    ensures path_ends_in_the_ending { result ≡ ends-in ending.now path.now }
+    ensures path_ends_in_the_ending { result ≡ ends_in ending.now path.now }
 {
     if ending.len() > path.len() {
         return false;
@@ -22,7 +22,7 @@ fn ends_in(ending: &[u8], path: &[u8]) -> bool
 impl Endings {
     /// A policy without endings.
     pub fn new() -> Endings
-        ensures no_endings { endings-of result ≡ [] }
+        ensures no_endings { endings_of result ≡ [] }
     {
         Endings {
             texts: [Text::empty(); MAX_ENDINGS],
@@ -32,8 +32,8 @@ impl Endings {
 
     /// One ending more; false, and no change, for a fifth or one of more than 16 bytes.
     pub fn add(&mut self, ending: &[u8]) -> bool
-        ensures four_short_endings { result ≡ (nat_lt (length (endings-of self.old)) 4 && nat_le (length ending.now) 16) }
-        ensures added_behind_the_others { endings-of self.new ≡ (if result then endings-of self.old ++ ending.now ∷ [] else endings-of self.old) }
+        ensures four_short_endings { result ≡ (nat_lt (length (endings_of self.old)) 4 && nat_le (length ending.now) 16) }
+        ensures added_behind_the_others { endings_of self.new ≡ (if result then endings_of self.old ++ ending.now ∷ [] else endings_of self.old) }
     {
         if self.count >= MAX_ENDINGS {
             return false;
@@ -48,7 +48,7 @@ impl Endings {
 
     // Whether the path ends in one of the endings.
     fn fits(&self, path: &[u8]) -> bool
-        ensures path_ends_in_one_of_them { result ≡ ends-in-one (endings-of self.now) path.now }
+        ensures path_ends_in_one_of_them { result ≡ ends_in_one (endings_of self.now) path.now }
     {
         for i in 0..self.count {
             if ends_in(self.texts[i].as_bytes(), path) {
@@ -60,7 +60,7 @@ impl Endings {
 }
 
 impl Policy for Endings {
-    ghost allowed = { λ s path. ends-in-one (endings-of s) path };
+    ghost allowed = { λ s path. ends_in_one (endings_of s) path };
 
     fn allows(&self, path: &[u8]) -> bool {
         self.fits(path)

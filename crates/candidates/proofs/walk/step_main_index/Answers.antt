@@ -5,15 +5,15 @@ use Rattle.paths.specs.Joins.{joined}
 use Rattle.tree.specs.Meanings.{mains}
 use Rattle.settings.specs.Meant.{tables}
 use Rattle.candidates.specs.declared.walk.Walk.{Walk}
-use Rattle.candidates.specs.Candidates.{Candidate, main-text, overlong}
+use Rattle.candidates.specs.Candidates.{Candidate, main_text, overlong}
 use Rattle.candidates.specs.Left.{left, rank}
-use Rattle.candidates.proofs.Mains.{each-at, item-within, main-gone, main-index-done, main-index-next, main-long}
+use Rattle.candidates.proofs.Mains.{each_at, item_within, main_gone, main_index_done, main_index_next, main_long}
 use Rattle.candidates.proofs.walk.step_main_index.Goals as goal
 
 pub returns-in_default-clause-next_or_moved : goal.returns-in_default-clause-next_or_moved
 returns-in_default-clause-next_or_moved g c =
     let ms = mains ((g.H.FileTree.meaning c.args.host.now).manifest (parts c.args.path.now)) in
-    (main-gone (tables c.args.settings.now) c.args.fully_specified c.args.path.now ms c.args.main c.in_default.ensures.main_text_in_its_place c.args.place).1
+    (main_gone (tables c.args.settings.now) c.args.fully_specified c.args.path.now ms c.args.main c.in_default.ensures.main_text_in_its_place c.args.place).1
     ∙ sym (ap (λ (w : Walk). left (tables c.args.settings.now) c.args.fully_specified c.args.path.now (g.H.FileTree.meaning c.args.host.now) w) c.begin.ensures.first_place_of_the_stage)
 
 pub returns-in_default-clause-nearer_to_the_end : goal.returns-in_default-clause-nearer_to_the_end
@@ -24,18 +24,18 @@ returns-in_default-clause-nearer_to_the_end g c =
 pub join_main-requires-clause-short_main_text : goal.join_main-requires-clause-short_main_text
 join_main-requires-clause-short_main_text g c =
     let proper = g.met.H.FileTree.proper c.args.host.now c.requires.sound in
-    each-at (λ (t : Text). length t ≤ 32) (mains ((g.H.FileTree.meaning c.args.host.now).manifest (parts c.args.path.now))) c.args.main c.in-Some.text.now (proper.short-mains (parts c.args.path.now)) c.in-Some.ensures.main_text_in_its_place
+    each_at (λ (t : Text). length t ≤ 32) (mains ((g.H.FileTree.meaning c.args.host.now).manifest (parts c.args.path.now))) c.args.main c.in-Some.text.now (proper.short_mains (parts c.args.path.now)) c.in-Some.ensures.main_text_in_its_place
 
 pub returns-in_default-join_main-clause-next_or_moved : goal.returns-in_default-join_main-clause-next_or_moved
 returns-in_default-join_main-clause-next_or_moved g c =
     let ms = mains ((g.H.FileTree.meaning c.args.host.now).manifest (parts c.args.path.now)) in
-    (main-long (tables c.args.settings.now) c.args.fully_specified c.args.path.now ms c.args.main c.in-Some.text.now c.in-Some.ensures.main_text_in_its_place c.in_default-join_main.ensures.joined_to_the_path c.args.place).1
+    (main_long (tables c.args.settings.now) c.args.fully_specified c.args.path.now ms c.args.main c.in-Some.text.now c.in-Some.ensures.main_text_in_its_place c.in_default-join_main.ensures.joined_to_the_path c.args.place).1
     ∙ ap (λ (cs : List Candidate). overlong ∷ cs) (sym (ap (λ (w : Walk). left (tables c.args.settings.now) c.args.fully_specified c.args.path.now (g.H.FileTree.meaning c.args.host.now) w) c.begin-in_default-join_main.ensures.first_place_of_the_stage))
 
 pub overflow_add-main : goal.overflow_add-main
 overflow_add-main g c =
     let proper = g.met.H.FileTree.proper c.args.host.now c.requires.sound in
-    omega (arith, proper.few-mains (parts c.args.path.now), item-within (mains ((g.H.FileTree.meaning c.args.host.now).manifest (parts c.args.path.now))) c.args.main c.in-Some.text.now c.in-Some.ensures.main_text_in_its_place)
+    omega (arith, proper.few_mains (parts c.args.path.now), item_within (mains ((g.H.FileTree.meaning c.args.host.now).manifest (parts c.args.path.now))) c.args.main c.in-Some.text.now c.in-Some.ensures.main_text_in_its_place)
 
 pub returns-in-Some-index_candidate-clause-next_or_moved : goal.returns-in-Some-index_candidate-clause-next_or_moved
 returns-in-Some-index_candidate-clause-next_or_moved g c =
@@ -44,8 +44,8 @@ returns-in-Some-index_candidate-clause-next_or_moved g c =
     let len = c.in-Some-join_main.len in
     let whole : len ≡ len - 0 = omega arith in
     let q = take (len - 0) text in
-    let made : Some q ≡ joined c.args.path.now (main-text c.in-Some.text.now) = ap (λ (n : ℕ). Some (take n text)) (sym whole) ∙ c.in-Some-join_main.ensures.joined_to_the_path in
-    main-index-next (tables c.args.settings.now) c.args.fully_specified c.args.path.now ms c.args.main c.in-Some.text.now c.in-Some.ensures.main_text_in_its_place q made c.args.place _ (c.in-Some-index_candidate.ensures.index_at_the_place c.args.path.now)
+    let made : Some q ≡ joined c.args.path.now (main_text c.in-Some.text.now) = ap (λ (n : ℕ). Some (take n text)) (sym whole) ∙ c.in-Some-join_main.ensures.joined_to_the_path in
+    main_index_next (tables c.args.settings.now) c.args.fully_specified c.args.path.now ms c.args.main c.in-Some.text.now c.in-Some.ensures.main_text_in_its_place q made c.args.place _ (c.in-Some-index_candidate.ensures.index_at_the_place c.args.path.now)
 
 pub returns-in-None-clause-next_or_moved : goal.returns-in-None-clause-next_or_moved
 returns-in-None-clause-next_or_moved g c =
@@ -54,13 +54,13 @@ returns-in-None-clause-next_or_moved g c =
     let len = c.in-Some-join_main.len in
     let whole : len ≡ len - 0 = omega arith in
     let q = take (len - 0) text in
-    let made : Some q ≡ joined c.args.path.now (main-text c.in-Some.text.now) = ap (λ (n : ℕ). Some (take n text)) (sym whole) ∙ c.in-Some-join_main.ensures.joined_to_the_path in
-    main-index-done (tables c.args.settings.now) c.args.fully_specified c.args.path.now ms c.args.main c.in-Some.text.now c.in-Some.ensures.main_text_in_its_place q made c.args.place (c.in-None.ensures.index_at_the_place c.args.path.now)
+    let made : Some q ≡ joined c.args.path.now (main_text c.in-Some.text.now) = ap (λ (n : ℕ). Some (take n text)) (sym whole) ∙ c.in-Some-join_main.ensures.joined_to_the_path in
+    main_index_done (tables c.args.settings.now) c.args.fully_specified c.args.path.now ms c.args.main c.in-Some.text.now c.in-Some.ensures.main_text_in_its_place q made c.args.place (c.in-None.ensures.index_at_the_place c.args.path.now)
     ∙ sym (ap (λ (w : Walk). left (tables c.args.settings.now) c.args.fully_specified c.args.path.now (g.H.FileTree.meaning c.args.host.now) w) c.begin-in-None.ensures.first_place_of_the_stage)
 
 pub returns-in-None-clause-nearer_to_the_end : goal.returns-in-None-clause-nearer_to_the_end
 returns-in-None-clause-nearer_to_the_end g c =
     let proper = g.met.H.FileTree.proper c.args.host.now c.requires.sound in
-    let few : c.args.main < 255 = omega (arith, proper.few-mains (parts c.args.path.now), item-within (mains ((g.H.FileTree.meaning c.args.host.now).manifest (parts c.args.path.now))) c.args.main c.in-Some.text.now c.in-Some.ensures.main_text_in_its_place) in
+    let few : c.args.main < 255 = omega (arith, proper.few_mains (parts c.args.path.now), item_within (mains ((g.H.FileTree.meaning c.args.host.now).manifest (parts c.args.path.now))) c.args.main c.in-Some.text.now c.in-Some.ensures.main_text_in_its_place) in
     let r : rank c.begin-in-None.result.stage ≡ 2 * (256 - (c.args.main + 1)) + 3 = ap (λ (w : Walk). rank w.stage) c.begin-in-None.ensures.first_place_of_the_stage in
     (omega (arith, r, few), λ e. omega (arith, r, few))

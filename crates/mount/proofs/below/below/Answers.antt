@@ -1,10 +1,10 @@
 use Rattle.std.proofs.Common.{◌≡◌, true, length, Some, sym, ap, ◌∙◌, inl, inr, ⊎_elim, arith}
 use Rattle.std.specs.Str.{bytes_eq}
-use Rattle.texts.specs.Parts.{parts, text_at, texts-of}
+use Rattle.texts.specs.Parts.{parts, text_at, texts_of}
 use Rattle.texts.specs.Texts.{Text}
 use Rattle.texts.specs.Walks.{begun, left, subject}
 use Rattle.mount.specs.Mounts.{stripped}
-use Rattle.mount.proofs.Routes.{none_first, rest-short, strip-differs, strip-done, strip-goes-on, strip-short}
+use Rattle.mount.proofs.Routes.{none_first, rest_short, strip_differs, strip_done, strip_goes_on, strip_short}
 use Rattle.mount.proofs.below.below.Goals as goal
 
 pub loop-part-init : goal.loop-part-init
@@ -12,20 +12,20 @@ unfolding parts
 loop-part-init c = (
   c.new-wanted.ensures.of_the_text,
   c.new-found.ensures.of_the_text,
-  (λ i. stripped (texts-of (c.new-wanted.ensures.all_parts_are_left i)) (texts-of (c.new-found.ensures.all_parts_are_left i))),
+  (λ i. stripped (texts_of (c.new-wanted.ensures.all_parts_are_left i)) (texts_of (c.new-found.ensures.all_parts_are_left i))),
   inr c.new-wanted.ensures.all_parts_are_left,
 )
 
 pub returns-in_default-next : goal.returns-in_default-next
 returns-in_default-next c =
-    record { rest_below_the_mount = sym c.loop-part.invariant.2 ∙ strip-short (left c.loop-part.wanted) (left c.loop-part.found) _ c.in-Some.ensures.part_stands_there c.in_default-next.ensures.place_of_the_next_part }
+    record { rest_below_the_mount = sym c.loop-part.invariant.2 ∙ strip_short (left c.loop-part.wanted) (left c.loop-part.found) _ c.in-Some.ensures.part_stands_there c.in_default-next.ensures.place_of_the_next_part }
 
 pub returns-then-not-same_bytes : goal.returns-then-not-same_bytes
 returns-then-not-same_bytes c =
     record {
       rest_below_the_mount =
           sym c.loop-part.invariant.2
-          ∙ strip-differs (left c.loop-part.wanted) (left c.loop-part.found) _ _
+          ∙ strip_differs (left c.loop-part.wanted) (left c.loop-part.found) _ _
           c.in-Some.ensures.part_stands_there c.in-Some-next.ensures.part_stands_there c.same_bytes.result
           (c.same_bytes.ensures.byte_for_byte
           ∙ (λ i. bytes_eq ((c.of.ensures.part_of_the_text ∙ ap (λ (t : Text). text_at t c.in-Some.part) (sym c.loop-part.invariant.0)) i) ((c.of-in-Some.ensures.part_of_the_text ∙ ap (λ (t : Text). text_at t c.in-Some-next.other) (sym c.loop-part.invariant.1)) i)))
@@ -36,8 +36,8 @@ pub loop-part-preserved : goal.loop-part-preserved
 loop-part-preserved c = (
   c.next.ensures.same_text ∙ c.loop-part.invariant.0,
   c.next-in-Some.ensures.same_text ∙ c.loop-part.invariant.1,
-  (λ i. stripped (texts-of (c.next.ensures.others_are_left i)) (texts-of (c.next-in-Some.ensures.others_are_left i)))
-      ∙ sym (strip-goes-on (left c.loop-part.wanted) (left c.loop-part.found) _ _
+  (λ i. stripped (texts_of (c.next.ensures.others_are_left i)) (texts_of (c.next-in-Some.ensures.others_are_left i)))
+      ∙ sym (strip_goes_on (left c.loop-part.wanted) (left c.loop-part.found) _ _
       c.in-Some.ensures.part_stands_there c.in-Some-next.ensures.part_stands_there c.same_bytes.result
       (c.same_bytes.ensures.byte_for_byte
       ∙ (λ i. bytes_eq ((c.of.ensures.part_of_the_text ∙ ap (λ (t : Text). text_at t c.in-Some.part) (sym c.loop-part.invariant.0)) i) ((c.of-in-Some.ensures.part_of_the_text ∙ ap (λ (t : Text). text_at t c.in-Some-next.other) (sym c.loop-part.invariant.1)) i)))
@@ -54,12 +54,12 @@ returns c =
     record {
       rest_below_the_mount = (
         sym c.loop-part.invariant.2
-            ∙ strip-done (left c.loop-part.wanted) (texts-of (left c.loop-part.found)) done
+            ∙ strip_done (left c.loop-part.wanted) (texts_of (left c.loop-part.found)) done
             ∙ ap Some (sym (c.rest.ensures.parts_left_below_the_root started)),
         omega (
           arith,
           ap length c.rest.ensures.text_behind_the_part,
-          rest-short (subject c.loop-part.found) c.loop-part.found.at,
+          rest_short (subject c.loop-part.found) c.loop-part.found.at,
           ap length c.loop-part.invariant.1,
         ),
       );

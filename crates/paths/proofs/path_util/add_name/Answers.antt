@@ -2,7 +2,7 @@ use Rattle.std.proofs.Common.{◌≡◌, ℕ, ◌+◌, ◌-◌, ◌<◌, ◌≤�
 use Rattle.std.proofs.lemmas.List.{length-take-le, length-append}
 use Rattle.texts.specs.Texts.{fronted}
 use Rattle.paths.specs.Joins.{separator, slashed}
-use Rattle.texts.proofs.Buffers.{fronted-more, goes_in, stays_out}
+use Rattle.texts.proofs.Buffers.{fronted_more, goes_in, stays_out}
 use Rattle.paths.proofs.path_util.add_name.Goals as goal
 use Rattle.paths.proofs.path_util.add_name.Goals.{then-room-slash-via-then-room-slash, then-room-slash-via-else-room-slash+then-room-slash-2}
 
@@ -38,6 +38,6 @@ returns c =
     let start : c.append-start.result ≡ length (front ++ slash) = omega (arith, first.length_with_more, length-append front slash, length-take-le c.args.len text c.requires) in
     let all = goes_in (slashed front ++ name) text c.append.result c.append.new.text
     (omega (arith, first.length_with_more, second.length_with_more))
-    (second.more_behind_the_text ∙ fronted-more text c.append-start.new.text (front ++ slash) name c.append-start.result first.more_behind_the_text start ∙ ap (λ s. fronted ((front ++ s) ++ name) text) same)
+    (second.more_behind_the_text ∙ fronted_more text c.append-start.new.text (front ++ slash) name c.append-start.result first.more_behind_the_text start ∙ ap (λ s. fronted ((front ++ s) ++ name) text) same)
     (omega arith) in
     record { length_if_it_fits = all.0; name_behind_the_text_if_it_fits = all.1 }

@@ -1,6 +1,6 @@
 use Rattle.std.proofs.Common.{◌∙◌}
 use Rattle.paths.specs.Joins.{normalized}
-use Rattle.paths.proofs.JoinLaws.{normalize-short, normalize-twice}
+use Rattle.paths.proofs.JoinLaws.{normalize_short, normalize_twice}
 use Rattle.texts.proofs.Buffers.{handed_out, refused}
 use Rattle.paths.proofs.path_util.normalize.Goals as goal
 
@@ -11,8 +11,8 @@ returns-in_err-len c =
     record {
       length_of_the_normal_text = c.from_residual.ensures ∙ no_text.0;
       normal_text_in_front = no_text.1;
-      twice_is_once = normalize-twice t;
-      never_longer = normalize-short t;
+      twice_is_once = normalize_twice t;
+      never_longer = normalize_short t;
     }
 
 pub returns : goal.returns
@@ -22,6 +22,6 @@ returns c =
     record {
       length_of_the_normal_text = c.copy_text.ensures.length_if_it_fits ∙ text.0;
       normal_text_in_front = c.copy_text.ensures.bytes_beyond_stay ∙ text.1;
-      twice_is_once = normalize-twice t;
-      never_longer = normalize-short t;
+      twice_is_once = normalize_twice t;
+      never_longer = normalize_short t;
     }

@@ -1,9 +1,9 @@
 use Rattle.std.proofs.Common.{◌≡◌, List, [], take, set, sym, ap, ◌∙◌, arith}
 use Rattle.std.proofs.lemmas.List.{take_more_set}
-use Rattle.texts.specs.Parts.{Mark, root, texts-of}
+use Rattle.texts.specs.Parts.{Mark, root, texts_of}
 use Rattle.texts.specs.Walks.{but_first}
-use Rattle.paths.specs.Joins.{walked-within}
-use Rattle.paths.proofs.JoinLaws.{normal-rooted, normal-unrooted}
+use Rattle.paths.specs.Joins.{walked_within}
+use Rattle.paths.proofs.JoinLaws.{normal_rooted, normal_unrooted}
 use Rattle.paths.proofs.path_util.normalize_into.Goals as goal
 
 pub returns-then-begins_with_slash : goal.returns-then-begins_with_slash
@@ -13,8 +13,8 @@ returns-then-begins_with_slash c =
     record {
       normal_text_in_front =
           c.push_components.ensures.parts_joined_one_by_one
-          ∙ (λ i. walked-within (front i) (texts-of ((c.next.ensures.others_are_left ∙ ap but_first c.new-parts.ensures.all_parts_are_left) i)))
-          ∙ normal-rooted t (omega arith) (sym c.if-begins_with_slash.ensures.slash_in_front);
+          ∙ (λ i. walked_within (front i) (texts_of ((c.next.ensures.others_are_left ∙ ap but_first c.new-parts.ensures.all_parts_are_left) i)))
+          ∙ normal_rooted t (omega arith) (sym c.if-begins_with_slash.ensures.slash_in_front);
       at_most_255_bytes = c.push_components.ensures.at_most_255_bytes;
     }
 
@@ -24,7 +24,7 @@ returns-else-begins_with_slash c =
     record {
       normal_text_in_front =
           c.push_components-else-begins_with_slash.ensures.parts_joined_one_by_one
-          ∙ ap (λ (ms : List Mark). walked-within [] (texts-of ms)) c.new-parts.ensures.all_parts_are_left
-          ∙ normal-unrooted t (omega arith) (sym c.if-begins_with_slash.ensures.slash_in_front);
+          ∙ ap (λ (ms : List Mark). walked_within [] (texts_of ms)) c.new-parts.ensures.all_parts_are_left
+          ∙ normal_unrooted t (omega arith) (sym c.if-begins_with_slash.ensures.slash_in_front);
       at_most_255_bytes = c.push_components-else-begins_with_slash.ensures.at_most_255_bytes;
     }

@@ -1,6 +1,6 @@
 use Rattle.std.proofs.Common.{◌∙◌}
 use Rattle.paths.specs.Joins.{joined}
-use Rattle.paths.proofs.JoinLaws.{join-clean, join-keeps, join-short}
+use Rattle.paths.proofs.JoinLaws.{join_clean, join_keeps, join_short}
 use Rattle.texts.proofs.Buffers.{handed_out, refused}
 use Rattle.paths.proofs.path_util.normalize_with.Goals as goal
 
@@ -12,9 +12,9 @@ returns-in_err-len c =
     record {
       length_of_the_joined_text = c.from_residual.ensures ∙ no_text.0;
       joined_text_in_front = no_text.1;
-      clean_stays_clean = join-clean a b;
-      directory_stays_in_front = join-keeps a b;
-      short_texts_always_join = join-short a b;
+      clean_stays_clean = join_clean a b;
+      directory_stays_in_front = join_keeps a b;
+      short_texts_always_join = join_short a b;
     }
 
 pub returns : goal.returns
@@ -25,7 +25,7 @@ returns c =
     record {
       length_of_the_joined_text = c.copy_text.ensures.length_if_it_fits ∙ text.0;
       joined_text_in_front = c.copy_text.ensures.bytes_beyond_stay ∙ text.1;
-      clean_stays_clean = join-clean a b;
-      directory_stays_in_front = join-keeps a b;
-      short_texts_always_join = join-short a b;
+      clean_stays_clean = join_clean a b;
+      directory_stays_in_front = join_keeps a b;
+      short_texts_always_join = join_short a b;
     }

@@ -1,7 +1,7 @@
 use Rattle.std.proofs.Common.{sym, ◌∙◌, arith}
 use Rattle.std.proofs.lemmas.List.{at_drop_all}
 use Rattle.texts.specs.Texts.{printable}
-use Rattle.texts.proofs.ByteLoops.{high-stops, low-stops, printable-on}
+use Rattle.texts.proofs.ByteLoops.{high_stops, low_stops, printable_on}
 use Rattle.texts.proofs.bytes.is_printable.Goals as goal
 use Rattle.texts.proofs.bytes.is_printable.Goals.{then-b-lt-MIN_PRINTABLE-via-then-b-lt-MIN_PRINTABLE, then-b-lt-MIN_PRINTABLE-via-else-b-lt-MIN_PRINTABLE+then-b-gt-MAX_PRINTABLE}
 
@@ -12,13 +12,13 @@ returns-then-b-lt-MIN_PRINTABLE c =
     record {
       every_byte_is_32_to_126 =
           elim c.then-b-lt-MIN_PRINTABLE.branch [
-            | then-b-lt-MIN_PRINTABLE-via-then-b-lt-MIN_PRINTABLE w ↦ sym (low-stops t i (omega arith) w.if-b-lt-MIN_PRINTABLE.true) ∙ c.loop-b.invariant
-            | then-b-lt-MIN_PRINTABLE-via-else-b-lt-MIN_PRINTABLE+then-b-gt-MAX_PRINTABLE w ↦ sym (high-stops t i (omega arith) w.if-b-gt-MAX_PRINTABLE.true) ∙ c.loop-b.invariant
+            | then-b-lt-MIN_PRINTABLE-via-then-b-lt-MIN_PRINTABLE w ↦ sym (low_stops t i (omega arith) w.if-b-lt-MIN_PRINTABLE.true) ∙ c.loop-b.invariant
+            | then-b-lt-MIN_PRINTABLE-via-else-b-lt-MIN_PRINTABLE+then-b-gt-MAX_PRINTABLE w ↦ sym (high_stops t i (omega arith) w.if-b-gt-MAX_PRINTABLE.true) ∙ c.loop-b.invariant
           ];
     }
 
 pub loop-b-preserved : goal.loop-b-preserved
-loop-b-preserved c = sym (printable-on c.args.text.now c.loop-b.b-index (omega arith) c.if-b-lt-MIN_PRINTABLE.false c.if-b-gt-MAX_PRINTABLE.false) ∙ c.loop-b.invariant
+loop-b-preserved c = sym (printable_on c.args.text.now c.loop-b.b-index (omega arith) c.if-b-lt-MIN_PRINTABLE.false c.if-b-gt-MAX_PRINTABLE.false) ∙ c.loop-b.invariant
 
 pub returns : goal.returns
 returns c = record { every_byte_is_32_to_126 = sym (at_drop_all printable c.args.text.now c.loop-b.b-index (omega arith)) ∙ c.loop-b.invariant }

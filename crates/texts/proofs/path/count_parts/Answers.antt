@@ -3,11 +3,11 @@ use Rattle.std.proofs.lemmas.List.{length-map}
 use Rattle.texts.specs.Parts.{Mark, marks, parts}
 use Rattle.texts.specs.Walks.{left}
 use Rattle.texts.proofs.PartLoops.{none_left}
-use Rattle.texts.proofs.Weights.{parts-weight}
+use Rattle.texts.proofs.Weights.{parts_weight}
 use Rattle.texts.proofs.path.count_parts.Goals as goal
 
 pub overflow_add-count : goal.overflow_add-count
-overflow_add-count c = omega (arith, (parts-weight c.args.text.now).1)
+overflow_add-count c = omega (arith, (parts_weight c.args.text.now).1)
 
 pub returns : goal.returns
 unfolding parts

@@ -1,7 +1,7 @@
 use Rattle.std.proofs.Common.{◌≡◌, Bool, false, ◌&&◌, map, sym, ap, ◌∙◌, ⊎_elim}
 use Rattle.texts.specs.Held.{bytes_of}
 use Rattle.tree.specs.Acceptances.{acceptable, unrestricted}
-use Rattle.tree.specs.Meanings.{is-file}
+use Rattle.tree.specs.Meanings.{is_file}
 use Rattle.tree.proofs.acceptance.is_acceptable.Goals as goal
 
 pub returns-then-allows : goal.returns-then-allows
@@ -11,7 +11,7 @@ returns-then-allows g c =
     record {
       acceptable_by_definition =
           c.passes_restrictions.ensures.same_bytes_as_each_restriction
-          ∙ (λ i. is-file (c.in-File.ensures.answer_by_the_meaning i) && (c.if-allows.ensures.answer_by_the_meaning i && rest));
+          ∙ (λ i. is_file (c.in-File.ensures.answer_by_the_meaning i) && (c.if-allows.ensures.answer_by_the_meaning i && rest));
       same_meaning = c.kind.ensures.same_meaning;
       still_sound = c.kind.ensures.still_sound;
       asked_once = c.kind.ensures.steps_on;
@@ -24,7 +24,7 @@ returns-else-allows g c =
     record {
       acceptable_by_definition =
           c.if-allows.false
-          ∙ (λ i. is-file (c.in-File.ensures.answer_by_the_meaning i) && (c.if-allows.ensures.answer_by_the_meaning i && rest));
+          ∙ (λ i. is_file (c.in-File.ensures.answer_by_the_meaning i) && (c.if-allows.ensures.answer_by_the_meaning i && rest));
       same_meaning = c.kind.ensures.same_meaning;
       still_sound = c.kind.ensures.still_sound;
       asked_once = c.kind.ensures.steps_on;
@@ -35,9 +35,9 @@ unfolding acceptable
 returns-in-Nothing g c =
     let path = c.args.path.now in
     let rest = g.P.Policy.allowed c.args.policy.now path && unrestricted (map bytes_of c.args.restrictions.now) path in
-    let no-file : is-file c.kind.result ≡ false = ⊎_elim (λ e. ap is-file e) (λ e. ap is-file e) c.in-Nothing.is in
+    let no_file : is_file c.kind.result ≡ false = ⊎_elim (λ e. ap is_file e) (λ e. ap is_file e) c.in-Nothing.is in
     record {
-      acceptable_by_definition = ap (λ (v : Bool). v && rest) (sym no-file ∙ ap is-file c.kind.ensures.answer_by_the_meaning);
+      acceptable_by_definition = ap (λ (v : Bool). v && rest) (sym no_file ∙ ap is_file c.kind.ensures.answer_by_the_meaning);
       same_meaning = c.kind.ensures.same_meaning;
       still_sound = c.kind.ensures.still_sound;
       asked_once = c.kind.ensures.steps_on;

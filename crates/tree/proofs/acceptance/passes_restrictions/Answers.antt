@@ -5,7 +5,7 @@ use Rattle.texts.specs.Held.{bytes_of}
 use Rattle.texts.specs.Parts.{every}
 use Rattle.texts.specs.Texts.{Text}
 use Rattle.tree.specs.Acceptances.{unrestricted}
-use Rattle.tree.proofs.Rows.{every-on, every-stops, row_at}
+use Rattle.tree.proofs.Rows.{every_on, every_stops, row_at}
 use Rattle.tree.proofs.acceptance.passes_restrictions.Goals as goal
 
 pub returns-then-not-same_bytes : goal.returns-then-not-same_bytes
@@ -15,7 +15,7 @@ returns-then-not-same_bytes c =
     let here = row_at rows c.loop-i.i c.index-restrictions-i.result c.loop-i-test.true c.index-restrictions-i.is in
     record {
       same_bytes_as_each_restriction =
-          sym (every-stops c.args.path.now _ _ _ here (ap (bytes_eq c.args.path.now) (sym c.as_bytes.ensures.bytes_of_the_text) ∙ sym c.same_bytes.ensures.byte_for_byte ∙ c.if-not-same_bytes.true))
+          sym (every_stops c.args.path.now _ _ _ here (ap (bytes_eq c.args.path.now) (sym c.as_bytes.ensures.bytes_of_the_text) ∙ sym c.same_bytes.ensures.byte_for_byte ∙ c.if-not-same_bytes.true))
           ∙ c.loop-i.invariant;
     }
 
@@ -23,7 +23,7 @@ pub loop-i-preserved : goal.loop-i-preserved
 loop-i-preserved c =
     let rows = c.args.restrictions.now in
     let here = row_at rows c.loop-i.i c.index-restrictions-i.result c.loop-i-test.true c.index-restrictions-i.is in
-    sym (every-on c.args.path.now _ _ _ here (ap (bytes_eq c.args.path.now) (sym c.as_bytes.ensures.bytes_of_the_text) ∙ sym c.same_bytes.ensures.byte_for_byte ∙ c.if-not-same_bytes.false))
+    sym (every_on c.args.path.now _ _ _ here (ap (bytes_eq c.args.path.now) (sym c.as_bytes.ensures.bytes_of_the_text) ∙ sym c.same_bytes.ensures.byte_for_byte ∙ c.if-not-same_bytes.false))
     ∙ c.loop-i.invariant
 
 pub returns : goal.returns

@@ -1,11 +1,11 @@
 use Rattle.std.proofs.Common.{◌≡◌, ◌+◌, cond, [], ◌∷◌, map, drop, sym, ap, ◌∙◌, arith}
 use Rattle.std.proofs.lemmas.Bool.{cond-false}
-use Rattle.stack.proofs.Slots.{mapped-from}
-use Rattle.settings.specs.Rows.{alias-of}
+use Rattle.stack.proofs.Slots.{mapped_from}
+use Rattle.settings.specs.Rows.{alias_of}
 use Rattle.alias.specs.declared.attempts.Progress.{Progress}
 use Rattle.alias.specs.Attempts.{attempts}
-use Rattle.alias.specs.Left.{left, left-of, row-left, row-said}
-use Rattle.alias.proofs.Attempting.{gone-label, next-later, next-taken, untouched}
+use Rattle.alias.specs.Left.{left, left_of, row_left, row_said}
+use Rattle.alias.proofs.Attempting.{gone_label, next_later, next_taken, untouched}
 use Rattle.alias.proofs.attempts.Progress.next.Goals as goal
 
 pub returns-then-work-lt-MAX_LEN-clause-untouching_label_changes_nothing : goal.returns-then-work-lt-MAX_LEN-clause-untouching_label_changes_nothing
@@ -25,41 +25,41 @@ returns-in-Some-clause-next_in_the_list g c =
     let m = g.T.FileTree.meaning c.args.tree.now in
     let d = c.args.directory.now in
     let r = c.args.request.now in
-    let ls = map alias-of c.args.aliases.now in
+    let ls = map alias_of c.args.aliases.now in
     let i = c.loop-i.i in
-    let a = alias-of c.index-aliases-i.result in
+    let a = alias_of c.index-aliases-i.result in
     let new = c.try_label.new.self in
     let x = c.in-Some.attempt in
     let gone = c.go_to.ensures.same_label_or_a_fresh_one in
-    let step = mapped-from alias-of c.args.aliases.now i c.index-aliases-i.result c.loop-i-test.true c.index-aliases-i.is in
-    let at : new.label ≡ i = c.in-Some.ensures.same_label ∙ ap (λ (p : Progress). p.label) gone ∙ gone-label i c.loop-i.self in
+    let step = mapped_from alias_of c.args.aliases.now i c.index-aliases-i.result c.loop-i-test.true c.index-aliases-i.is in
+    let at : new.label ≡ i = c.in-Some.ensures.same_label ∙ ap (λ (p : Progress). p.label) gone ∙ gone_label i c.loop-i.self in
     let later = attempts m d r (drop (i + 1) ls) in
-    let taken : row-left m d r a c.go_to.new.self later ≡ row-said a new r c.try_label.new.work x ∷ cond new.done [] (row-left m d r a new later) =
-    (λ k. row-left (sym c.loop-i.invariant.same_meaning k) d r a c.go_to.new.self later)
+    let taken : row_left m d r a c.go_to.new.self later ≡ row_said a new r c.try_label.new.work x ∷ cond new.done [] (row_left m d r a new later) =
+    (λ k. row_left (sym c.loop-i.invariant.same_meaning k) d r a c.go_to.new.self later)
     ∙ c.in-Some.ensures.next_of_the_label later
-    ∙ (λ k. row-said a new r c.try_label.new.work x ∷ cond new.done [] (row-left (c.loop-i.invariant.same_meaning k) d r a new later)) in
-    let begin : left m d r ls c.args.self.now ≡ left-of m d r (drop c.args.self.now.label ls) c.args.self.now = cond-false _ _ _ c.if-self.false in
+    ∙ (λ k. row_said a new r c.try_label.new.work x ∷ cond new.done [] (row_left (c.loop-i.invariant.same_meaning k) d r a new later)) in
+    let begin : left m d r ls c.args.self.now ≡ left_of m d r (drop c.args.self.now.label ls) c.args.self.now = cond-false _ _ _ c.if-self.false in
     λ h.
     begin
     ∙ sym c.loop-i.invariant.left_from_there
-    ∙ ap (λ (p : Progress). left-of m d r (drop i ls) p) (sym gone)
-    ∙ next-taken m d r ls i a step c.go_to.new.self new x c.try_label.new.work at taken
+    ∙ ap (λ (p : Progress). left_of m d r (drop i ls) p) (sym gone)
+    ∙ next_taken m d r ls i a step c.go_to.new.self new x c.try_label.new.work at taken
 
 pub loop-i-preserved : goal.loop-i-preserved
 loop-i-preserved g c =
     let m = g.T.FileTree.meaning c.args.tree.now in
     let d = c.args.directory.now in
     let r = c.args.request.now in
-    let ls = map alias-of c.args.aliases.now in
+    let ls = map alias_of c.args.aliases.now in
     let i = c.loop-i.i in
-    let a = alias-of c.index-aliases-i.result in
+    let a = alias_of c.index-aliases-i.result in
     let new = c.try_label.new.self in
     let gone = c.go_to.ensures.same_label_or_a_fresh_one in
-    let step = mapped-from alias-of c.args.aliases.now i c.index-aliases-i.result c.loop-i-test.true c.index-aliases-i.is in
-    let at : new.label ≡ i = c.in_default.ensures.same_label ∙ ap (λ (p : Progress). p.label) gone ∙ gone-label i c.loop-i.self in
+    let step = mapped_from alias_of c.args.aliases.now i c.index-aliases-i.result c.loop-i-test.true c.index-aliases-i.is in
+    let at : new.label ≡ i = c.in_default.ensures.same_label ∙ ap (λ (p : Progress). p.label) gone ∙ gone_label i c.loop-i.self in
     let later = attempts m d r (drop (i + 1) ls) in
-    let passed : row-left m d r a c.go_to.new.self later ≡ later =
-    (λ k. row-left (sym c.loop-i.invariant.same_meaning k) d r a c.go_to.new.self later) ∙ (c.in_default.ensures.next_of_the_label later).0 in
+    let passed : row_left m d r a c.go_to.new.self later ≡ later =
+    (λ k. row_left (sym c.loop-i.invariant.same_meaning k) d r a c.go_to.new.self later) ∙ (c.in_default.ensures.next_of_the_label later).0 in
     record {
       sound = c.try_label.ensures.still_sound;
       same_meaning = c.try_label.ensures.same_meaning ∙ c.loop-i.invariant.same_meaning;
@@ -67,7 +67,7 @@ loop-i-preserved g c =
       not_done = (c.in_default.ensures.next_of_the_label later).1;
       not_beyond = omega arith;
       left_from_there =
-          next-later m d r ls i a step c.go_to.new.self new at passed
-          ∙ ap (λ (p : Progress). left-of m d r (drop i ls) p) gone
+          next_later m d r ls i a step c.go_to.new.self new at passed
+          ∙ ap (λ (p : Progress). left_of m d r (drop i ls) p) gone
           ∙ c.loop-i.invariant.left_from_there;
     }

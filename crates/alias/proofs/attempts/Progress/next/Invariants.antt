@@ -1,6 +1,6 @@
 use Rattle.std.proofs.Common.{◌≡◌, ◌≤◌, false, drop, map}
-use Rattle.settings.specs.Rows.{alias-of}
-use Rattle.alias.specs.Left.{gone-to, left-of}
+use Rattle.settings.specs.Rows.{alias_of}
+use Rattle.alias.specs.Left.{gone_to, left_of}
 use Rattle.alias.proofs.attempts.Progress.next.Given as goal
 
 -- The labels in front gave nothing; nothing was written.
@@ -11,5 +11,5 @@ invariant-loop-i g l = record {
   nothing_written : l.work ≡ l.initial.work;
   not_done : l.self.done ≡ false;
   not_beyond : l.self.label ≤ l.i;
-  left_from_there : left-of (g.T.FileTree.meaning l.initial.tree) l.directory l.request (drop l.i (map alias-of l.aliases)) (gone-to l.i l.self) ≡ left-of (g.T.FileTree.meaning l.initial.tree) l.directory l.request (drop l.initial.self.label (map alias-of l.aliases)) l.initial.self;
+  left_from_there : left_of (g.T.FileTree.meaning l.initial.tree) l.directory l.request (drop l.i (map alias_of l.aliases)) (gone_to l.i l.self) ≡ left_of (g.T.FileTree.meaning l.initial.tree) l.directory l.request (drop l.initial.self.label (map alias_of l.aliases)) l.initial.self;
 }

@@ -2,31 +2,31 @@ use Rattle.std.proofs.Common.{◌≡◌, ℕ, ◌+◌, ◌-◌, true, false, len
 use Rattle.std.proofs.lemmas.List.{take_rest}
 use Rattle.std.proofs.lemmas.Bool.{lt-ltb, le-ltb}
 use Rattle.texts.specs.Texts.{has, until}
-use Rattle.texts.proofs.ByteLoops.{has-until}
+use Rattle.texts.proofs.ByteLoops.{has_until}
 use Rattle.alias.specs.Forms.{STAR, exact, wildcard}
-use Rattle.alias.proofs.Touching.{exact-form, starred-form, unstarred-form}
+use Rattle.alias.proofs.Touching.{exact_form, starred_form, unstarred_form}
 use Rattle.alias.proofs.label.AliasMatchKind.of.Goals as goal
 
 pub returns-then-ends_in_dollar : goal.returns-then-ends_in_dollar
 returns-then-ends_in_dollar c =
-    record { form_of_the_label = ap exact c.key.ensures.label_without_its_dollar ∙ sym (exact-form c.args.label.now (sym c.ends_in_dollar.ensures.final_dollar ∙ c.if-ends_in_dollar.true)) }
+    record { form_of_the_label = ap exact c.key.ensures.label_without_its_dollar ∙ sym (exact_form c.args.label.now (sym c.ends_in_dollar.ensures.final_dollar ∙ c.if-ends_in_dollar.true)) }
 
 pub returns-then-star-label : goal.returns-then-star-label
 returns-then-star-label c =
     let l = c.args.label.now in
-    let none : has STAR l ≡ false = has-until STAR l ∙ le-ltb (until STAR l) (length l) (omega (arith, c.position-star.ensures.stands_before_the_first)) in
-    record { form_of_the_label = sym (unstarred-form l (sym c.ends_in_dollar.ensures.final_dollar ∙ c.if-ends_in_dollar.false) none) }
+    let none : has STAR l ≡ false = has_until STAR l ∙ le-ltb (until STAR l) (length l) (omega (arith, c.position-star.ensures.stands_before_the_first)) in
+    record { form_of_the_label = sym (unstarred_form l (sym c.ends_in_dollar.ensures.final_dollar ∙ c.if-ends_in_dollar.false) none) }
 
 pub returns : goal.returns
 returns c =
     let l = c.args.label.now in
     let p = c.position-star.result in
     let at : p ≡ until STAR l = c.position-star.ensures.stands_before_the_first in
-    let some : has STAR l ≡ true = has-until STAR l ∙ lt-ltb (until STAR l) (length l) (omega (arith, at)) in
+    let some : has STAR l ≡ true = has_until STAR l ∙ lt-ltb (until STAR l) (length l) (omega (arith, at)) in
     let whole : p - 0 ≡ p = omega arith in
     record {
       form_of_the_label =
           (λ i. wildcard (take (whole i) l) (take_rest l (p + 1) i))
           ∙ ap (λ (n : ℕ). wildcard (take n l) (drop (n + 1) l)) at
-          ∙ sym (starred-form l (sym c.ends_in_dollar.ensures.final_dollar ∙ c.if-ends_in_dollar.false) some);
+          ∙ sym (starred_form l (sym c.ends_in_dollar.ensures.final_dollar ∙ c.if-ends_in_dollar.false) some);
     }

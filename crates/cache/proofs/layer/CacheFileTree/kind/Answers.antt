@@ -4,7 +4,7 @@ use Rattle.texts.specs.Texts.{Text, fits}
 use Rattle.tree.specs.Meanings.{Meaning}
 use Rattle.cache.specs.Held.{Agrees, held}
 use Rattle.cache.specs.Seen.{recalled, remember}
-use Rattle.cache.proofs.Agreement.{agrees-recalled, agrees-remember, asked-held, asked-not-held, renewed-none, renewed-some, short-held}
+use Rattle.cache.proofs.Agreement.{agrees_recalled, agrees_remember, asked_held, asked_not_held, renewed_none, renewed_some, short_held}
 use Rattle.cache.proofs.layer.CacheFileTree.kind.Goals as goal
 
 pub returns-in-Some-recall : goal.returns-in-Some-recall
@@ -14,15 +14,15 @@ returns-in-Some-recall g c =
     let es = held c.args.self.now.recent in
     let tree = (g.H.FileTree.meaning c.args.self.now.below).kind in
     let k = c.in-Some-recall.kind in
-    let short : fits t ≡ true = short-held c.in-Some.text.bytes c.in-Some.text.len t (omega arith) c.in-Some.ensures.same_bytes_or_too_many in
+    let short : fits t ≡ true = short_held c.in-Some.text.bytes c.in-Some.text.len t (omega arith) c.in-Some.ensures.same_bytes_or_too_many in
     let known = sym c.in-Some-recall.ensures.kind_if_held in
-    let is : k ≡ tree p = agrees-recalled p tree es k c.requires.sound.1 known in
-    let new : held c.recall.new.self ≡ remember p k es = c.in-Some-recall.ensures.becomes_the_latest ∙ renewed-some p es k known in
+    let is : k ≡ tree p = agrees_recalled p tree es k c.requires.sound.1 known in
+    let new : held c.recall.new.self ≡ remember p k es = c.in-Some-recall.ensures.becomes_the_latest ∙ renewed_some p es k known in
     record {
       answer_by_the_meaning = is;
       same_meaning = refl;
-      still_sound = (c.requires.sound.0, subst (Agrees tree) (sym new) (agrees-remember p tree es k is c.requires.sound.1));
-      steps_on = asked-held tree t es _ short k is new known refl;
+      still_sound = (c.requires.sound.0, subst (Agrees tree) (sym new) (agrees_remember p tree es k is c.requires.sound.1));
+      steps_on = asked_held tree t es _ short k is new known refl;
     }
 
 pub returns : goal.returns
@@ -33,16 +33,16 @@ returns g c =
     let tree = (g.H.FileTree.meaning c.args.self.now.below).kind in
     let k = c.kind-kind.result in
     let same : _ ≡ t = c.in-Some.ensures.same_bytes_or_too_many in
-    let short : fits t ≡ true = short-held c.in-Some.text.bytes c.in-Some.text.len t (omega arith) same in
+    let short : fits t ≡ true = short_held c.in-Some.text.bytes c.in-Some.text.len t (omega arith) same in
     let none : recalled p es ≡ None = sym c.in_default-recall.ensures.kind_if_held in
-    let kept : held c.recall.new.self ≡ es = c.in_default-recall.ensures.becomes_the_latest ∙ renewed-none p es none in
+    let kept : held c.recall.new.self ≡ es = c.in_default-recall.ensures.becomes_the_latest ∙ renewed_none p es none in
     let is : k ≡ tree p = c.kind-kind.ensures.answer_by_the_meaning in
     let new : held c.remember.new.self ≡ remember p k es =
     c.remember.ensures.becomes_the_latest ∙ ap (λ (u : Text). remember (parts u) k (held c.recall.new.self)) same ∙ ap (remember p k) kept in
-    let agrees : Agrees tree (held c.remember.new.self) = subst (Agrees tree) (sym new) (agrees-remember p tree es k is c.requires.sound.1) in
+    let agrees : Agrees tree (held c.remember.new.self) = subst (Agrees tree) (sym new) (agrees_remember p tree es k is c.requires.sound.1) in
     record {
       answer_by_the_meaning = is;
       same_meaning = c.kind-kind.ensures.same_meaning;
       still_sound = (c.kind-kind.ensures.still_sound, subst (λ (m : Meaning). Agrees m.kind (held c.remember.new.self)) (sym c.kind-kind.ensures.same_meaning) agrees);
-      steps_on = asked-not-held tree t es _ short k is new none c.kind-kind.ensures.steps_on;
+      steps_on = asked_not_held tree t es _ short k is new none c.kind-kind.ensures.steps_on;
     }

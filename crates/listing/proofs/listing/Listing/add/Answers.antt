@@ -2,23 +2,23 @@ use Rattle.std.proofs.Common.{Some, None, sym, refl, ◌∙◌, arith}
 use Rattle.std.proofs.lemmas.List.{length-set}
 use Rattle.listing.specs.declared.refusals.Refusal.TheVariants.{Kind}
 use Rattle.listing.specs.Entries.{rows}
-use Rattle.listing.proofs.Entering.{answer-is, few-then, fit_then, place-then, room-left, rows_are, short-texts, taken-rows}
-use Rattle.listing.specs.RowsLemmas.{few-lines}
+use Rattle.listing.proofs.Entering.{answer_is, few_then, fit_then, place_then, room_left, rows_are, short_texts, taken_rows}
+use Rattle.listing.specs.RowsLemmas.{few_lines}
 use Rattle.listing.proofs.listing.Listing.add.Goals as goal
 
 pub new-requires : goal.new-requires
-new-requires c = short-texts c.args.self.now c.in-Some.kind c.args.first.now c.args.second.now c.refusal.result c.refusal.ensures.first_check_that_fails c.in_default-refusal.is
+new-requires c = short_texts c.args.self.now c.in-Some.kind c.args.first.now c.args.second.now c.refusal.result c.refusal.ensures.first_check_that_fails c.in_default-refusal.is
 
 pub listed : goal.listed
-listed c = omega (arith, c.args.self.now.full, room-left c.args.self.now c.in-Some.kind c.args.first.now c.args.second.now c.refusal.result c.refusal.ensures.first_check_that_fails c.in_default-refusal.is)
+listed c = omega (arith, c.args.self.now.full, room_left c.args.self.now c.in-Some.kind c.args.first.now c.args.second.now c.refusal.result c.refusal.ensures.first_check_that_fails c.in_default-refusal.is)
 
 pub bounds-self-self : goal.bounds-self-self
-bounds-self-self c = room-left c.args.self.now c.in-Some.kind c.args.first.now c.args.second.now c.refusal.result c.refusal.ensures.first_check_that_fails c.in_default-refusal.is
+bounds-self-self c = room_left c.args.self.now c.in-Some.kind c.args.first.now c.args.second.now c.refusal.result c.refusal.ensures.first_check_that_fails c.in_default-refusal.is
 
 pub invariant_of-self : goal.invariant_of-self
 invariant_of-self c =
     let s = c.args.self.now in
-    let low = room-left s c.in-Some.kind c.args.first.now c.args.second.now c.refusal.result c.refusal.ensures.first_check_that_fails c.in_default-refusal.is in
+    let low = room_left s c.in-Some.kind c.args.first.now c.args.second.now c.refusal.result c.refusal.ensures.first_check_that_fails c.in_default-refusal.is in
     record {
       full = length-set s.lines s.count c.new.result ∙ s.full;
       within = omega arith;
@@ -30,9 +30,9 @@ returns-in_default c =
     let s = c.args.self.now in
     let kind = c.in_default.ensures.kind_by_its_number in
     record {
-      taken_or_refused = answer-is (rows s) c.args.kind c.args.first.now c.args.second.now None (Some Kind) kind refl;
+      taken_or_refused = answer_is (rows s) c.args.kind c.args.first.now c.args.second.now None (Some Kind) kind refl;
       lines_after = rows_are (rows s) c.args.kind c.args.first.now c.args.second.now None (Some Kind) kind refl;
-      at_most_256_lines = few-lines s;
+      at_most_256_lines = few_lines s;
       earlier_lines_go_on_deciding = λ q i h. h;
     }
 
@@ -42,9 +42,9 @@ returns-in-Some-refusal c =
     let kind = c.in-Some.ensures.kind_by_its_number in
     let no = c.in-Some-refusal.ensures.first_check_that_fails in
     record {
-      taken_or_refused = answer-is (rows s) c.args.kind c.args.first.now c.args.second.now (Some c.in-Some.kind) (Some c.in-Some-refusal.refusal) kind no;
+      taken_or_refused = answer_is (rows s) c.args.kind c.args.first.now c.args.second.now (Some c.in-Some.kind) (Some c.in-Some-refusal.refusal) kind no;
       lines_after = rows_are (rows s) c.args.kind c.args.first.now c.args.second.now (Some c.in-Some.kind) (Some c.in-Some-refusal.refusal) kind no;
-      at_most_256_lines = few-lines s;
+      at_most_256_lines = few_lines s;
       earlier_lines_go_on_deciding = λ q i h. h;
     }
 
@@ -56,8 +56,8 @@ returns c =
     let k = c.in-Some.kind in
     let kind = c.in-Some.ensures.kind_by_its_number in
     record {
-      taken_or_refused = answer-is (rows s) c.args.kind a b (Some k) None kind (sym c.in_default-refusal.is ∙ c.refusal.ensures.first_check_that_fails);
-      lines_after = taken-rows s k a b c.refusal.result c.refusal.ensures.first_check_that_fails c.in_default-refusal.is c.new.result c.new.ensures.row_of_kind_and_texts c.args.kind kind;
-      at_most_256_lines = few-then s k a b c.refusal.result c.refusal.ensures.first_check_that_fails c.in_default-refusal.is c.new.result c.new.ensures.row_of_kind_and_texts;
-      earlier_lines_go_on_deciding = place-then s k a b c.refusal.result c.refusal.ensures.first_check_that_fails c.in_default-refusal.is c.new.result c.new.ensures.row_of_kind_and_texts;
+      taken_or_refused = answer_is (rows s) c.args.kind a b (Some k) None kind (sym c.in_default-refusal.is ∙ c.refusal.ensures.first_check_that_fails);
+      lines_after = taken_rows s k a b c.refusal.result c.refusal.ensures.first_check_that_fails c.in_default-refusal.is c.new.result c.new.ensures.row_of_kind_and_texts c.args.kind kind;
+      at_most_256_lines = few_then s k a b c.refusal.result c.refusal.ensures.first_check_that_fails c.in_default-refusal.is c.new.result c.new.ensures.row_of_kind_and_texts;
+      earlier_lines_go_on_deciding = place_then s k a b c.refusal.result c.refusal.ensures.first_check_that_fails c.in_default-refusal.is c.new.result c.new.ensures.row_of_kind_and_texts;
     }

@@ -5,13 +5,13 @@ use Rattle.texts.specs.Held.{bytes_of}
 use Rattle.settings.specs.declared.kinds.Setting.{Setting}
 use Rattle.settings.specs.Entries.{full}
 use Rattle.settings.specs.Meant.{tables}
-use Rattle.settings.proofs.Labels.{count-is}
+use Rattle.settings.proofs.Labels.{count_is}
 use Rattle.settings.proofs.settings.Settings.is_full.Goals as goal
 
 pub returns-in-Alias : goal.returns-in-Alias
 returns-in-Alias c =
     let s = c.args.self.now in
-    record { no_room_in_its_table = ap (leb 16) (sym (count-is s)) ∙ ap (λ (k : Setting). full k (tables s)) (sym c.in-Alias.is) }
+    record { no_room_in_its_table = ap (leb 16) (sym (count_is s)) ∙ ap (λ (k : Setting). full k (tables s)) (sym c.in-Alias.is) }
 
 pub returns-in-Extension : goal.returns-in-Extension
 returns-in-Extension c =

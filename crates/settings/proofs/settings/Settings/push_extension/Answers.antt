@@ -3,24 +3,24 @@ use Rattle.stack.specs.Held.{held}
 use Rattle.texts.specs.Held.{bytes_of}
 use Rattle.texts.specs.Parts.{every}
 use Rattle.texts.specs.Texts.{Text}
-use Rattle.settings.specs.Entries.{with-extensions}
-use Rattle.settings.specs.Limits.{extension-kept}
+use Rattle.settings.specs.Entries.{with_extensions}
+use Rattle.settings.specs.Limits.{extension_kept}
 use Rattle.settings.specs.Meant.{tables}
-use Rattle.settings.proofs.Kept.{every-pushed, text-made, text-pushed}
+use Rattle.settings.proofs.Kept.{every_pushed, text_made, text_pushed}
 use Rattle.settings.proofs.settings.Settings.push_extension.Goals as goal
 use Rattle.settings.proofs.settings.Settings.push_extension.Goals.{After-push}
 
 -- the texts then
-texts-then : (c : After-push) → map bytes_of (held c.push.new.self) ≡ map bytes_of (held c.args.self.now.extensions) ++ c.args.extension.now ∷ []
-texts-then c =
-    text-pushed c.args.self.now.extensions c.push.new.self c.unwrap.result c.args.extension.now _ c.push.ensures.refused_only_when_full c.push.ensures.items_after
-    (text-made c.new.result c.unwrap.result c.args.extension.now c.unwrap.ensures c.new.ensures.same_bytes_or_too_many)
+texts_then : (c : After-push) → map bytes_of (held c.push.new.self) ≡ map bytes_of (held c.args.self.now.extensions) ++ c.args.extension.now ∷ []
+texts_then c =
+    text_pushed c.args.self.now.extensions c.push.new.self c.unwrap.result c.args.extension.now _ c.push.ensures.refused_only_when_full c.push.ensures.items_after
+    (text_made c.new.result c.unwrap.result c.args.extension.now c.unwrap.ensures c.new.ensures.same_bytes_or_too_many)
     c.requires.room
 
 pub invariant_of-self : goal.invariant_of-self
 invariant_of-self c =
     let s = c.args.self.now in
-    let kept = ap (every extension-kept) (texts-then c) ∙ every-pushed extension-kept (tables s).extensions c.args.extension.now s.extensions_kept c.requires.well_written in
+    let kept = ap (every extension_kept) (texts_then c) ∙ every_pushed extension_kept (tables s).extensions c.args.extension.now s.extensions_kept c.requires.well_written in
     record {
       whole = s.whole;
       within = s.within;
@@ -31,4 +31,4 @@ invariant_of-self c =
     }
 
 pub returns : goal.returns
-returns c = record { extension_behind_the_others = ap (λ (now-written : List Text). with-extensions now-written (tables c.args.self.now)) (texts-then (goal.at.returns c).After-push) }
+returns c = record { extension_behind_the_others = ap (λ (now_written : List Text). with_extensions now_written (tables c.args.self.now)) (texts_then (goal.at.returns c).After-push) }

@@ -2,43 +2,43 @@ use Rattle.std.proofs.Common.{◌≡◌, ℕ, ◌-◌, ◌<◌, ◌≤◌, true,
 use Rattle.std.proofs.lemmas.List.{length-set}
 use Rattle.std.proofs.lemmas.Bool.{cases_lt, cond-true, eqb-false, leb-false, lt-ltb}
 use Rattle.settings.specs.declared.row.AliasRow.{AliasRow}
-use Rattle.settings.specs.Entries.{last-values, to_last, with-aliases}
+use Rattle.settings.specs.Entries.{last_values, to_last, with_aliases}
 use Rattle.settings.specs.Limits.{aliases_kept}
 use Rattle.settings.specs.Meant.{tables}
-use Rattle.settings.specs.Rows.{alias-of, value_of}
+use Rattle.settings.specs.Rows.{alias_of, value_of}
 use Rattle.settings.specs.Tables.{Alias, with_value}
-use Rattle.settings.proofs.Kept.{to-last-kept}
-use Rattle.settings.proofs.Labels.{count-is, last-changed, last-values-are, unlabelled-is}
+use Rattle.settings.proofs.Kept.{to_last_kept}
+use Rattle.settings.proofs.Labels.{count_is, last_changed, last_values_are, unlabelled_is}
 use Rattle.settings.proofs.settings.Settings.push_value.Goals as goal
 use Rattle.settings.proofs.settings.Settings.push_value.Goals.{After-push}
 
-some-label : (c : After-push) → 0 < c.args.self.now.count
-some-label c =
+some_label : (c : After-push) → 0 < c.args.self.now.count
+some_label c =
     let s = c.args.self.now in
-    let some = eqb-false (length (tables s).aliases) 0 (unlabelled-is (tables s).aliases ∙ c.requires.label_before) in
-    positive s.count (λ e. some (count-is s ∙ e))
+    let some = eqb-false (length (tables s).aliases) 0 (unlabelled_is (tables s).aliases ∙ c.requires.label_before) in
+    positive s.count (λ e. some (count_is s ∙ e))
   where
     positive : (n : ℕ) → (n ≡ 0 → ⊥) → 0 < n
     positive n h = ⊎_elim (λ (p : 0 < n). p) (λ (p : n ≤ 0). absurd (h (omega arith))) (cases_lt 0 n)
 
-few-values : (c : After-push) → length (last-values (tables c.args.self.now).aliases) < 4
-few-values c = leb-false 4 (length (last-values (tables c.args.self.now).aliases)) c.requires.room
+few_values : (c : After-push) → length (last_values (tables c.args.self.now).aliases) < 4
+few_values c = leb-false 4 (length (last_values (tables c.args.self.now).aliases)) c.requires.room
 
 -- the labels then
-labels-then : (c : After-push) → map alias-of (take c.args.self.now.count (set c.args.self.now.rows (c.args.self.now.count - 1) c.push.new.self)) ≡ to_last (value_of c.args.value) (tables c.args.self.now).aliases
-labels-then c =
+labels_then : (c : After-push) → map alias_of (take c.args.self.now.count (set c.args.self.now.rows (c.args.self.now.count - 1) c.push.new.self)) ≡ to_last (value_of c.args.value) (tables c.args.self.now).aliases
+labels_then c =
     let s = c.args.self.now in
     let r = c.index-rows-last.result in
     let is = c.index-rows-last.is in
-    let here = last-values-are s (some-label c) r is in
-    let room : c.push.result ≡ true = c.push.ensures.room_for_four ∙ lt-ltb _ 4 (omega (arith, few-values c, ap length here, ap (λ (x : AliasRow). length (alias-of x).values) is)) in
-    last-changed s (some-label c) r is c.push.new.self (value_of c.args.value)
-    (c.push.ensures.value_behind_the_others ∙ cond-true _ _ _ room ∙ ap (λ (x : AliasRow). with_value (value_of c.args.value) (alias-of x)) (sym is))
+    let here = last_values_are s (some_label c) r is in
+    let room : c.push.result ≡ true = c.push.ensures.room_for_four ∙ lt-ltb _ 4 (omega (arith, few_values c, ap length here, ap (λ (x : AliasRow). length (alias_of x).values) is)) in
+    last_changed s (some_label c) r is c.push.new.self (value_of c.args.value)
+    (c.push.ensures.value_behind_the_others ∙ cond-true _ _ _ room ∙ ap (λ (x : AliasRow). with_value (value_of c.args.value) (alias_of x)) (sym is))
 
 pub invariant_of-self : goal.invariant_of-self
 invariant_of-self c =
     let s = c.args.self.now in
-    let kept = ap aliases_kept (labels-then c) ∙ to-last-kept (value_of c.args.value) (tables s).aliases s.aliases_kept c.requires.well_written (few-values c) in
+    let kept = ap aliases_kept (labels_then c) ∙ to_last_kept (value_of c.args.value) (tables s).aliases s.aliases_kept c.requires.well_written (few_values c) in
     record {
       whole = length-set s.rows _ _ ∙ s.whole;
       within = s.within;
@@ -49,4 +49,4 @@ invariant_of-self c =
     }
 
 pub returns : goal.returns
-returns c = record { value_at_the_last_label = ap (λ (now-written : List Alias). with-aliases now-written (tables c.args.self.now)) (labels-then (goal.at.returns c).After-push) }
+returns c = record { value_at_the_last_label = ap (λ (now_written : List Alias). with_aliases now_written (tables c.args.self.now)) (labels_then (goal.at.returns c).After-push) }

@@ -1,6 +1,6 @@
 use Rattle.std.proofs.Common.{◌+◌, refl, arith}
 use Rattle.std.proofs.lemmas.Bool.{lt-ltb}
-use Rattle.texts.proofs.Scans.{next-others, next_place, next-text}
+use Rattle.texts.proofs.Scans.{next_others, next_place, next_text}
 use Rattle.texts.proofs.components.Components.next.Goals as goal
 
 pub returns : goal.returns
@@ -11,8 +11,8 @@ returns c =
     let n = c.in_ok-place.ensures.next_part_or_none_left in
     record {
       place_of_the_next_part = next_place t at p n;
-      part_stands_there = next-text t at p n;
-      others_are_left = next-others t at p n;
+      part_stands_there = next_text t at p n;
+      others_are_left = next_others t at p n;
       same_text = refl;
       scan_has_begun = lt-ltb 0 (p.start + p.len) (omega (arith, n.some));
     }

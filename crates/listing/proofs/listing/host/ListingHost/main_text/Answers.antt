@@ -2,9 +2,9 @@ use Rattle.std.proofs.Common.{◌<◌, List, ap, ◌∙◌, arith, rules}
 use Rattle.texts.specs.Parts.{parts}
 use Rattle.texts.specs.Texts.{Text}
 use Rattle.listing.specs.Entries.{rows}
-use Rattle.listing.specs.Meanings.{main-at, manifest-at}
+use Rattle.listing.specs.Meanings.{main_at, manifest_at}
 use Rattle.listing.specs.Rows.{row}
-use Rattle.listing.specs.RowsLemmas.{counted, mains-decided}
+use Rattle.listing.specs.RowsLemmas.{counted, mains_decided}
 use Rattle.listing.proofs.listing.host.ListingHost.main_text.Goals as goal
 
 pub line-requires : goal.line-requires
@@ -22,5 +22,5 @@ pub returns-in-Manifest : goal.returns-in-Manifest
 returns-in-Manifest c =
     let rs = rows c.args.self.now in
     let decides = c.in_ok-at.ensures.rows_from_there_decide.1 in
-    let all = mains-decided (manifest-at (parts c.args.path.now)) rs c.in_ok-at.at (row c.line.result.now) decides c.line.ensures.row_at_the_place c.in-Manifest.is in
-    record { main_text_in_its_place = c.find_main.ensures.main_text_at_the_place ∙ ap (λ (ts : List Text). main-at ts c.args.i) all }
+    let all = mains_decided (manifest_at (parts c.args.path.now)) rs c.in_ok-at.at (row c.line.result.now) decides c.line.ensures.row_at_the_place c.in-Manifest.is in
+    record { main_text_in_its_place = c.find_main.ensures.main_text_at_the_place ∙ ap (λ (ts : List Text). main_at ts c.args.i) all }

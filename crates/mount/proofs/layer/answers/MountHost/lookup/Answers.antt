@@ -1,15 +1,15 @@
 use Rattle.std.proofs.Common.{◌<◌, length, replicate, sym, refl, ap, ◌∙◌, subst, rules}
 use Rattle.texts.specs.Held.{bytes_of}
 use Rattle.texts.specs.Parts.{marks, parts}
-use Rattle.texts.specs.Texts.{Text, buffer-with}
-use Rattle.tree.specs.Meanings.{Finding, Path, answered, path-found}
+use Rattle.texts.specs.Texts.{Text, buffer_with}
+use Rattle.tree.specs.Meanings.{Finding, Path, answered, path_found}
 use Rattle.mount.proofs.Fronts.{found_below}
-use Rattle.mount.specs.Placed.{mountable-marks}
+use Rattle.mount.specs.Placed.{mountable_marks}
 use Rattle.mount.proofs.layer.answers.MountHost.lookup.Goals as goal
 
 pub below-requires : goal.below-requires
 below-requires g c =
-    subst (λ (t : Text). 0 < length (marks t)) (sym c.as_bytes.ensures.bytes_of_the_text) (mountable-marks _ c.args.self.now.placed)
+    subst (λ (t : Text). 0 < length (marks t)) (sym c.as_bytes.ensures.bytes_of_the_text) (mountable_marks _ c.args.self.now.placed)
 
 pub returns-in-Found : goal.returns-in-Found
 returns-in-Found g c =
@@ -20,7 +20,7 @@ returns-in-Found g c =
     c.as_bytes.ensures.bytes_of_the_text c.as_bytes-in-Found.ensures.bytes_of_the_text c.in-Some.ensures.rest_below_the_mount.0 refl c.in-Found.ensures.answer_by_the_meaning c.in-Found.ensures.path_in_front in
     record {
       answer_by_the_meaning = c.put_in_front.ensures.found_if_the_whole_path_fits ∙ ap (λ (f : Finding). answered f (length c.args.out.now)) is;
-      path_in_front = c.put_in_front.ensures.path_in_front ∙ ap (λ (f : Finding). buffer-with (path-found f) c.args.out.now) is;
+      path_in_front = c.put_in_front.ensures.path_in_front ∙ ap (λ (f : Finding). buffer_with (path_found f) c.args.out.now) is;
       same_meaning = search rules;
       still_sound = search rules;
       steps_on = search rules;
