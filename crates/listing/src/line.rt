@@ -1,11 +1,17 @@
 // One line, and what it says.
 ghost use Rattle.std.specs.Prelude.{◌≡◌, ◌≤◌, [], length};
-ghost use Rattle.listing.specs.Rows.{is-manifest, kind-listed, row, row_of};
+ghost use Rattle.listing.specs.Rows.{is_manifest, kind_listed, row, row_of};
 ghost use Rattle.listing.specs.Meanings.{asked, fits};
+ghost use Rattle.texts.specs.Texts.{printable};
 
 use crate::kinds::{LineKind, Topic};
 use texts::{Text, same_bytes, same_path};
 use tree::{Kind, Way};
+
+// The least and the largest byte of a line's text.
+const MIN_BYTE: u8 = 32;
+
+const MAX_BYTE: u8 = 126;
 
 /// A kind and two texts: a path or a main text and nothing, or a request and a path.
 #[derive(Clone, Copy)]
@@ -13,6 +19,18 @@ pub struct Line {
     pub(crate) kind: LineKind,
     pub(crate) first: Text<255>,
     pub(crate) second: Text<255>,
+}
+
+// Whether every byte is one from 32 to 126.
+pub(crate) fn is_printable(text: &[u8]) -> bool
+    ensures every_byte_is_32_to_126 { result ≡ printable text.now }
+{
+    for b in text {
+        if *b < MIN_BYTE || *b > MAX_BYTE {
+            return false;
+        }
+    }
+    true
 }
 
 impl Line {
@@ -56,7 +74,7 @@ impl Line {
 
     // Whether main texts may follow the line.
     pub(crate) fn is_manifest(&self) -> bool
-        ensures manifest_by_its_kind { result ≡ is-manifest self.now.kind }
+        ensures manifest_by_its_kind { result ≡ is_manifest self.now.kind }
     {
         match self.kind {
             LineKind::Manifest => true,
@@ -66,7 +84,7 @@ impl Line {
 
     // The kind that the line gives its path.
     pub(crate) fn kind_listed(&self) -> Kind
-        ensures kind_of_the_listed_path { result ≡ kind-listed self.now.kind }
+        ensures kind_of_the_listed_path { result ≡ kind_listed self.now.kind }
     {
         match self.kind {
             LineKind::File => Kind::File,

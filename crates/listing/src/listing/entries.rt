@@ -1,13 +1,12 @@
 // Lines that are added, and lines that are refused.
 ghost use Rattle.std.specs.Prelude.{◌≡◌, ℕ, ◌≤◌, [], length, Some};
-ghost use Rattle.listing.specs.Entries.{entered, has-manifest, headless, refusal, refusal-of, rows, rows-after};
+ghost use Rattle.listing.specs.Entries.{entered, has_manifest, headless, refusal, refusal_of, rows, rows_after};
 ghost use Rattle.listing.specs.Meanings.{Asked, place};
 
 use crate::kinds::LineKind;
-use crate::line::Line;
+use crate::line::{Line, is_printable};
 use crate::listing::Listing;
 use crate::refusals::Refusal;
-use texts::is_printable;
 
 // How many lines there is room for.
 const LINES: usize = 256;
@@ -26,7 +25,7 @@ impl Listing {
     /// Adds a line behind the others. A line that is refused leaves the listing as it was.
     pub fn add(&mut self, kind: u16, first: &[u8], second: &[u8]) -> Result<(), Refusal>
         ensures taken_or_refused { result ≡ entered (refusal (rows self.old) kind first.now second.now) }
-        ensures lines_after { rows self.new ≡ rows-after (rows self.old) kind first.now second.now }
+        ensures lines_after { rows self.new ≡ rows_after (rows self.old) kind first.now second.now }
         ensures at_most_256_lines { length (rows self.new) ≤ 256 }
         ensures earlier_lines_go_on_deciding { (q : Asked) (i : ℕ) → place q (rows self.old) ≡ Some i → place q (rows self.new) ≡ Some i }
     {
@@ -42,7 +41,7 @@ impl Listing {
     }
 
     fn refusal(&self, kind: LineKind, first: &[u8], second: &[u8]) -> Option<Refusal>
-        ensures first_check_that_fails { result ≡ refusal-of (rows self.now) kind first.now second.now }
+        ensures first_check_that_fails { result ≡ refusal_of (rows self.now) kind first.now second.now }
     {
         if self.lacks_manifest(kind) {
             return Some(Refusal::MainBeforeManifest);
@@ -71,7 +70,7 @@ impl Listing {
     }
 
     fn has_manifest(&self) -> bool
-        ensures manifest_among_the_lines { result ≡ has-manifest (rows self.now) }
+        ensures manifest_among_the_lines { result ≡ has_manifest (rows self.now) }
     {
         for i in 0..self.count {
             if self.line(i).is_manifest() {
