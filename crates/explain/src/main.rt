@@ -1,4 +1,4 @@
-// Says in words how a sheet's requests are read and what a host says of them: one sentence a line.
+// Says in words how a sheet's requests are read, what a host says of them, what labels try and which candidates there are.
 #![tactic(auto)]
 
 ghost use Rattle.std.specs.Prelude.{◌≡◌, ◌==◌, ◌||◌, is_some};
