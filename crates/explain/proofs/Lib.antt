@@ -1,1 +1,4 @@
 pub mod Bounds
+pub mod FillingSteps
+pub mod FrontLine
+pub mod Writing

@@ -1,6 +1,14 @@
 pub mod Answers
+pub mod Causes
+pub mod Filled
+pub mod Filling
+pub mod FrontLine
+pub mod Labels
+pub mod Legible
 pub mod Offers
 pub mod Questions
 pub mod Readings
 pub mod Refusals
+pub mod Spoken
+pub mod Told
 pub mod Trials

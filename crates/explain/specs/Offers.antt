@@ -1,5 +1,6 @@
 -- What becomes of the candidates of a path. Assumes nothing.
-use Rattle.std.specs.Prelude.{Bool, true, false, cond, List}
+use Rattle.std.specs.Prelude.{Bool, true, false, cond, not, ◌&&◌, List, [], ◌∷◌, ◌++◌, codes}
+use Rattle.lines.specs.Sheets.{LINE_END}
 use Rattle.texts.specs.Held.{bytes_of}
 use Rattle.texts.specs.Parts.{parts}
 use Rattle.texts.specs.Texts.{Text}
@@ -8,6 +9,7 @@ use Rattle.tree.specs.declared.answers.Kind.TheVariants as kind
 use Rattle.tree.specs.Acceptances.{Allowed, unrestricted}
 use Rattle.tree.specs.Meanings.{Meaning}
 use Rattle.candidates.specs.Candidates.{Candidate, broken_at, overlong, try}
+use Rattle.explain.specs.Legible.{legible, phrase}
 use Rattle.explain.specs.declared.offer.Offer.{Offer}
 use Rattle.explain.specs.declared.offer.Offer.TheVariants as offer
 use Rattle.explain.specs.declared.offer.Verdict.{Verdict}
@@ -51,3 +53,32 @@ abbrev pub shown : Text → Offer → Judged
 shown path (offer.Try t v) = tried (bytes_of t) v
 shown path offer.BrokenManifest = broken path
 shown path offer.TooLong = too_long
+
+-- what becomes of a candidate, in words
+abbrev pub verdict_words : Verdict → Text
+verdict_words Nothing = codes "nothing there"
+verdict_words Directory = codes "a directory"
+verdict_words Forbidden = codes "a file that the policy does not allow"
+verdict_words Restricted = codes "a file that differs from a restriction"
+verdict_words Acceptable = codes "an acceptable file"
+
+-- the first acceptable candidate is marked
+abbrev pub mark : Bool → Verdict → Text
+mark first v = cond (first && passes v) (codes ", the first") []
+
+-- the line on a candidate; whether it is the first acceptable one if it is acceptable
+abbrev pub candidate_line : Bool → Judged → Text
+candidate_line first (tried t v) = phrase (codes "    " ∷ legible t ∷ codes " is " ∷ verdict_words v ∷ mark first v ∷ (LINE_END ∷ []) ∷ [])
+candidate_line first (broken p) = phrase (codes "    refused with 30, since the manifest of " ∷ legible p ∷ codes " is broken" ∷ (LINE_END ∷ []) ∷ [])
+candidate_line first too_long = codes "    refused with 28, since a text passes 255 bytes" ++ LINE_END ∷ []
+
+-- the candidate may be handed out
+abbrev pub may_pass : Judged → Bool
+may_pass (tried t v) = passes v
+may_pass (broken p) = false
+may_pass too_long = false
+
+-- the lines on all candidates, in their order
+abbrev pub candidate_lines : Bool → List Judged → Text
+candidate_lines first [] = []
+candidate_lines first (j ∷ more) = candidate_line first j ++ candidate_lines (first && not (may_pass j)) more

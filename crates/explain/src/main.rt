@@ -1,13 +1,13 @@
 // Says in words how a sheet's requests are read, what a host says of them, what labels try and which candidates there are.
 #![tactic(auto)]
 
-ghost use Rattle.std.specs.Prelude.{◌≡◌, ◌==◌, ◌||◌, is_some};
 ghost use Rattle.cache.specs.Held.{Agrees, held};
-ghost use Rattle.settings.specs.Kinds.{setting_of};
 ghost use Rattle.listing.specs.Entries.{rows};
 ghost use Rattle.listing.specs.Meanings.{listed};
 
 mod answer;
+mod cause;
+mod front;
 mod offer;
 mod question;
 mod reading;
@@ -19,48 +19,21 @@ mod trial;
 use answer::ask;
 use cache::Cache;
 use candidates::is_inward;
-use lines::{Head, Line, first_line};
+use cause::Cause;
+use front::fill;
+use lines::first_line;
 use listing::Listing;
 use offer::offers;
 use question::Question;
 use reading::{Reading, sought};
-use refusal::Refusal;
-use settings::{Setting, Settings};
+use sentence::{Labels, Offered, Refused, Told};
+use settings::Settings;
 use std::io::Read;
 use tree::{FileTree, PartCount};
 use trial::trials;
 
 // How many parts a path has at most that is handed out.
 const MAX_DEPTH: usize = 255;
-
-// The kind of a line that sets a flag.
-const FLAG: u16 = 31;
-
-// Whether a line of this kind is one of the settings.
-fn is_setting(kind: u16) -> bool
-    ensures kind_of_a_setting_or_a_flag { result ≡ (kind == 31 || is_some (setting_of kind)) }
-{
-    kind == FLAG || Setting::of(kind).is_some()
-}
-
-// Takes a line into the listing, or says why not.
-fn list(rt: &HostRuntime, listing: &mut Listing, number: u64, line: &[u8]) -> anyhow::Result<()> {
-    let Ok(content) = Line::read(line) else {
-        return sentence::refused(rt, number, Refusal::Line, line);
-    };
-    match listing.add(content.kind, content.first, content.second) {
-        Ok(()) => Ok(()),
-        Err(refusal) => sentence::unlisted(rt, number, refusal, line),
-    }
-}
-
-// Takes a line into the settings, or says why not.
-fn set(rt: &HostRuntime, settings: &mut Settings, number: u64, line: &[u8]) -> anyhow::Result<()> {
-    match settings.load(line) {
-        Ok(()) => Ok(()),
-        Err(refusal) => sentence::unset(rt, number, refusal, line),
-    }
-}
 
 // What the labels make of a text that is looked up, and the candidates of its path, in sentences.
 fn explain_text(
@@ -74,7 +47,12 @@ fn explain_text(
     ensures still_sound { Agrees (listed (rows host.new.below)).kind (held host.new.recent) }
 {
     let trials = trials(rt.alloc(), host, settings.aliases(), directory, request)?;
-    sentence::labels(rt, settings.aliases(), request, trials.as_slice())?;
+    let labels = Labels {
+        aliases: settings.aliases(),
+        request,
+        trials: trials.as_slice(),
+    };
+    print!(rt; "{labels}")?;
     let Some(path) = sought(directory, request) else {
         return Ok(());
     };
@@ -87,7 +65,18 @@ fn explain_text(
         is_inward(request),
         path.as_bytes(),
     )?;
-    sentence::candidates(rt, path.as_bytes(), offers.as_slice())
+    let offered = Offered {
+        path: path.as_bytes(),
+        offers: offers.as_slice(),
+    };
+    print!(rt; "{offered}")?;
+    Ok(())
+}
+
+// The sentence on a line that is refused.
+fn refuse(rt: &HostRuntime, line: u64, cause: Cause, text: &[u8]) -> anyhow::Result<()> {
+    println!(rt; "{}", Refused { line, cause, text })?;
+    Ok(())
 }
 
 // The sentences for one line of the sheet.
@@ -103,14 +92,21 @@ fn explain(
 {
     let question = match Question::read(line) {
         Ok(question) => question,
-        Err(refusal) => return sentence::refused(rt, number, refusal, line),
+        Err(refusal) => return refuse(rt, number, Cause::Question(refusal), line),
     };
     let reading = match Reading::of(question.directory, question.request) {
         Ok(reading) => reading,
-        Err(refusal) => return sentence::refused(rt, number, refusal, question.to_blame(refusal)),
+        Err(refusal) => {
+            return refuse(
+                rt,
+                number,
+                Cause::Question(refusal),
+                question.to_blame(refusal),
+            );
+        }
     };
     let answer = ask(host, question.directory, &reading);
-    sentence::read(rt, number, question, reading, answer)?;
+    println!(rt; "{}", Told::of(number, question, &reading, answer))?;
     if let Some(text) = reading.with_fragment(question.request) {
         explain_text(rt, host, settings, question.directory, text.as_bytes())?;
     }
@@ -123,36 +119,16 @@ fn explain(
     )
 }
 
-// Fills the listing and the settings from the lines in front of the first question; how many they are, and what is left.
-fn fill<'a>(
-    rt: &HostRuntime,
-    listing: &mut Listing,
-    settings: &mut Settings,
-    input: &'a [u8],
-) -> anyhow::Result<(u64, &'a [u8])> {
-    let mut rest = input;
-    let mut number = 0u64;
-    while !rest.is_empty() {
-        let (line, behind) = first_line(rest);
-        if Question::read(line).is_ok() {
-            break;
-        }
-        number = number.saturating_add(1);
-        match Head::read(line) {
-            Ok(head) if is_setting(head.kind) => set(rt, settings, number, line)?,
-            _ => list(rt, listing, number, line)?,
-        }
-        rest = behind;
-    }
-    Ok((number, rest))
-}
-
 fn run(rt: &HostRuntime) -> anyhow::Result<()> {
     let mut input = Vec::new(rt.alloc());
     rt.stdin().read_to_end(&mut input)?;
     let mut listing = Listing::new();
     let mut settings = Settings::new();
-    let (mut number, mut rest) = fill(rt, &mut listing, &mut settings, input.as_slice())?;
+    let filled = fill(rt.alloc(), &mut listing, &mut settings, input.as_slice())?;
+    for refused in &filled.refused {
+        println!(rt; "{refused}")?;
+    }
+    let (mut number, mut rest) = (filled.lines, filled.rest);
     let mut host = Cache::new(listing);
     while !rest.is_empty() {
         let (line, behind) = first_line(rest);

@@ -1,0 +1,19 @@
+-- A text that is written in turn. Assumes nothing.
+use Rattle.std.proofs.Common.{◌≡◌, ℕ, List, [], ◌++◌, sym}
+use Rattle.std.proofs.Output.{has_written_append, has_written_of_eq, writes_in_calls_nil}
+use Rattle.std.specs.declared.fmt.Formatter.{Formatter}
+use Rattle.std.specs.Fmt.{HasWritten, IsPlainFormatter}
+
+module _ {W : Type 0} (took : W → List ℕ → W → Type 0) (start : Formatter W) (whole : List ℕ) where
+  -- once what is left is written, the whole is
+  abbrev pub GoesOn : Formatter W → List ℕ → Type 0
+  GoesOn now left = IsPlainFormatter now × ((end : Formatter W) → HasWritten took now left end → HasWritten took start whole end)
+
+  -- a piece of what was left is written
+  pub goes_on : (now then : Formatter W) (left piece rest : List ℕ) → left ≡ piece ++ rest → HasWritten took now piece then → GoesOn now left → GoesOn then rest
+  goes_on now then left piece rest is wrote go =
+      (wrote.plain, λ end more. go.1 end (has_written_of_eq took _ _ _ _ (sym is) (has_written_append took now piece then rest end wrote more)))
+
+  -- nothing is left
+  pub all_written : (now : Formatter W) (left : List ℕ) → left ≡ [] → GoesOn now left → HasWritten took start whole now
+  all_written now left none go = go.1 now (has_written_of_eq took _ _ _ _ (sym none) (record { wrote = writes_in_calls_nil took now.writer; plain = go.0 }))

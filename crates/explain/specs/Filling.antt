@@ -1,0 +1,60 @@
+-- What the lines in front of the first question leave, one after the other. Assumes nothing.
+use Rattle.std.specs.Prelude.{length, ℕ, zero, suc, ◌+◌, ◌-◌, ◌^◌, min, Bool, cond, List, [], ◌∷◌, ◌++◌, is_ok, Some, None, Option}
+use Rattle.texts.specs.Texts.{Text, empty}
+use Rattle.lines.specs.Sheets.{behind_line, line_of}
+use Rattle.listing.specs.Rows.{Row}
+use Rattle.settings.specs.Tables.{Tables}
+use Rattle.explain.specs.declared.cause.Cause.{Cause}
+use Rattle.explain.specs.declared.sentence.refused.Refused.{Refused}
+use Rattle.explain.specs.FrontLine.{front_cause, front_rows, front_tables}
+use Rattle.explain.specs.Questions.{question_of}
+
+-- a line that was refused: its number, why, and the line
+pub record Noted : Type 0 where
+  pub line : ℕ
+  pub why : Cause
+  pub text : Text
+
+-- what a sentence on a refused line says
+abbrev pub noted : Refused → Noted
+noted r = record { line = r.line; why = r.cause; text = r.text.now }
+
+-- the listing, the settings, how many lines there were, those refused, and what is left of the sheet
+pub record Filling : Type 0 where
+  pub rows : List Row
+  pub tables : Tables
+  pub lines : ℕ
+  pub refused : List Noted
+  pub rest : Text
+
+-- the number of the next line; a sheet has fewer than 2 ^ 64
+abbrev pub next_line : ℕ → ℕ
+next_line n = min (n + 1) (2 ^ 64 - 1)
+
+-- a refusal is noted
+abbrev pub noting : Option Cause → ℕ → Text → List Noted
+noting None n line = []
+noting (Some why) n line = record { line = n; why = why; text = line } ∷ []
+
+-- after one line
+abbrev pub after_line : Filling → Text → Filling
+after_line s line = record {
+  rows = front_rows s.rows line;
+  tables = front_tables s.tables line;
+  lines = next_line s.lines;
+  refused = s.refused ++ noting (front_cause s.rows s.tables line) (next_line s.lines) line;
+  rest = behind_line s.rest;
+}
+
+-- the line asks a question
+abbrev pub asks : Text → Bool
+asks line = is_ok (question_of line)
+
+-- up to the first question or the end, n lines at most
+abbrev pub filled : ℕ → Filling → Filling
+filled zero s = s
+filled (suc n) s = cond (empty s.rest) s (cond (asks (line_of s.rest)) s (filled n (after_line s (line_of s.rest))))
+
+-- what a whole sheet leaves before its first question; it has no more lines than bytes
+abbrev pub filled_by : List Row → Tables → Text → Filling
+filled_by rs t sheet = filled (length sheet) (record { rows = rs; tables = t; lines = 0; refused = []; rest = sheet })
