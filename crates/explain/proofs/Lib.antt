@@ -1,4 +1,5 @@
 pub mod Bounds
+pub mod DecidingSteps
 pub mod FillingSteps
 pub mod FrontLine
 pub mod Writing

@@ -41,7 +41,7 @@ abbrev pub settings_words : SettingsRefusal → Text
 settings_words setting.LabelLength = codes "the label has no character, or more than 32"
 settings_words setting.Text = codes "a text has a wrong length, or a byte outside 32 to 126"
 settings_words setting.Full = codes "its table is full"
-settings_words setting.Form = codes "the text has not the form of its kind, or there is no such flag"
+settings_words setting.Form = codes "the text has not the form of its kind, or there is no such flag or setting of it"
 settings_words setting.ValueBeforeLabel = codes "no label stands before the value"
 settings_words setting.Kind = codes "its columns or its kind are not those of a line"
 

@@ -1,10 +1,11 @@
 -- What the lines in front of the first question leave, one after the other. Assumes nothing.
-use Rattle.std.specs.Prelude.{length, ℕ, zero, suc, ◌+◌, ◌-◌, ◌^◌, min, Bool, cond, List, [], ◌∷◌, ◌++◌, is_ok, Some, None, Option}
+use Rattle.std.specs.Prelude.{length, ℕ, zero, suc, ◌+◌, ◌-◌, ◌^◌, min, Bool, cond, List, map, [], ◌∷◌, ◌++◌, is_ok, Some, None, Option}
 use Rattle.texts.specs.Texts.{Text, empty}
 use Rattle.lines.specs.Sheets.{behind_line, line_of}
 use Rattle.listing.specs.Rows.{Row}
 use Rattle.settings.specs.Tables.{Tables}
 use Rattle.explain.specs.declared.cause.Cause.{Cause}
+use Rattle.explain.specs.declared.front.Filled.{Filled}
 use Rattle.explain.specs.declared.sentence.refused.Refused.{Refused}
 use Rattle.explain.specs.FrontLine.{front_cause, front_rows, front_tables}
 use Rattle.explain.specs.Questions.{question_of}
@@ -20,7 +21,7 @@ abbrev pub noted : Refused → Noted
 noted r = record { line = r.line; why = r.cause; text = r.text.now }
 
 -- the listing, the settings, how many lines there were, those refused, and what is left of the sheet
-pub record Filling : Type 0 where
+pub record Front : Type 0 where
   pub rows : List Row
   pub tables : Tables
   pub lines : ℕ
@@ -37,7 +38,7 @@ noting None n line = []
 noting (Some why) n line = record { line = n; why = why; text = line } ∷ []
 
 -- after one line
-abbrev pub after_line : Filling → Text → Filling
+abbrev pub after_line : Front → Text → Front
 after_line s line = record {
   rows = front_rows s.rows line;
   tables = front_tables s.tables line;
@@ -51,10 +52,14 @@ abbrev pub asks : Text → Bool
 asks line = is_ok (question_of line)
 
 -- up to the first question or the end, n lines at most
-abbrev pub filled : ℕ → Filling → Filling
+abbrev pub filled : ℕ → Front → Front
 filled zero s = s
 filled (suc n) s = cond (empty s.rest) s (cond (asks (line_of s.rest)) s (filled n (after_line s (line_of s.rest))))
 
 -- what a whole sheet leaves before its first question; it has no more lines than bytes
-abbrev pub filled_by : List Row → Tables → Text → Filling
+abbrev pub filled_by : List Row → Tables → Text → Front
 filled_by rs t sheet = filled (length sheet) (record { rows = rs; tables = t; lines = 0; refused = []; rest = sheet })
+
+-- what filling returns, with the listing and the settings that it leaves
+abbrev pub front_of : List Row → Tables → Filled → Front
+front_of rs t f = record { rows = rs; tables = t; lines = f.lines; refused = map noted f.refused.items; rest = f.rest.now }

@@ -17,7 +17,7 @@ abbrev pub outcome_words : Bool → Outcome → Text
 outcome_words first (Again t) = cond first (codes ": tried is ") (codes ", then ") ++ legible (bytes_of t)
 outcome_words first (Ignored t) = cond first (codes ": ignored with 24 is ") (codes ", then ignored with 24 is ") ++ legible (bytes_of t)
 outcome_words first Unmatched = codes ", and where none is found it is refused with 23"
-outcome_words first TooLong = codes ": refused with 28, since a text passes 255 bytes"
+outcome_words first TooLong = cond first (codes ": ") (codes ", then ") ++ codes "refused with 28, since a text passes 255 bytes"
 
 -- all that comes of a label
 abbrev pub outcomes_words : List Trial → Text
@@ -37,24 +37,16 @@ abbrev pub untouched_line : Text → List Alias → Text
 untouched_line request [] = phrase (codes "  No label touches " ∷ legible request ∷ (LINE_END ∷ []) ∷ [])
 untouched_line request (a ∷ more) = cond (touches a.label request) [] (untouched_line request more)
 
--- the place of the label of which something is tried
-abbrev pub decided : List Trial → Option ℕ
-decided [] = None
-decided (t ∷ more) = Some t.label
-
 -- the lines on all labels where nothing is tried: those that touch, or that none does
 abbrev pub undecided_lines : List Alias → Text → Text
 undecided_lines aliases request = flat_map (passed_over request) aliases ++ untouched_line request aliases
 
--- the lines where something is tried: the labels passed over before, and the line with what is tried
-abbrev pub decided_lines : List Alias → Text → List Trial → ℕ → Text
-decided_lines aliases request trials place =
-    phrase (flat_map (passed_over request) (take place aliases) ∷ touching_words request (label_of (drop place aliases)) ∷ outcomes_words trials ∷ (LINE_END ∷ []) ∷ [])
+-- the labels passed over before, and the line on a label with what is tried
+abbrev pub decided_lines : List Alias → Text → Text → List Trial → Text
+decided_lines before label request trials =
+    phrase (flat_map (passed_over request) before ∷ touching_words request label ∷ outcomes_words trials ∷ (LINE_END ∷ []) ∷ [])
 
-abbrev pub labels_lines_by : List Alias → Text → List Trial → Option ℕ → Text
-labels_lines_by aliases request trials None = undecided_lines aliases request
-labels_lines_by aliases request trials (Some place) = decided_lines aliases request trials place
-
--- the lines on the labels that touch a request
-abbrev pub labels_lines : List Alias → Text → List Trial → Text
-labels_lines aliases request trials = labels_lines_by aliases request trials (decided trials)
+-- the lines on the labels that touch a request, with the place of the one of which something is tried
+abbrev pub labels_lines : List Alias → Text → Option ℕ → List Trial → Text
+labels_lines aliases request None trials = undecided_lines aliases request
+labels_lines aliases request (Some place) trials = decided_lines (take place aliases) (label_of (drop place aliases)) request trials

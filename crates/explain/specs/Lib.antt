@@ -1,6 +1,5 @@
 pub mod Answers
 pub mod Causes
-pub mod Filled
 pub mod Filling
 pub mod FrontLine
 pub mod Labels
@@ -9,6 +8,5 @@ pub mod Offers
 pub mod Questions
 pub mod Readings
 pub mod Refusals
-pub mod Spoken
 pub mod Told
 pub mod Trials

@@ -13,6 +13,7 @@ use Rattle.specifier.specs.Requests.{fragment_of, path_of, piece_at, query_of, s
 use Rattle.specifier.specs.Sought.{sought_path}
 use Rattle.explain.specs.declared.reading.Reading.{Reading}
 use Rattle.explain.specs.declared.refusal.Refusal.{Refusal}
+use Rattle.explain.specs.declared.sentence.told.Told.{Told}
 use Rattle.explain.specs.declared.refusal.Refusal.TheVariants.{Directory, Request, Empty}
 
 -- a request that is read: its pieces, the way it goes and the path that it looks for
@@ -75,3 +76,13 @@ path_and_fragment p None (Some f) = Some (p ++ f)
 -- what is looked up before the path alone
 abbrev pub fragment_first : Meaning → Option Text
 fragment_first m = path_and_fragment m.path m.query m.fragment
+
+-- the reading that a sentence speaks of
+abbrev pub reading_in : Told → Meaning
+reading_in t = record {
+  path = t.path.now;
+  query = option_map (λ s. s.now) t.query;
+  fragment = option_map (λ s. s.now) t.fragment;
+  way = t.branch;
+  sought = option_map (λ s. s.now) t.sought;
+}

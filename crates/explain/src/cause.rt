@@ -47,7 +47,7 @@ fn settings_reason(refusal: settings::Refusal) -> &'static str
         settings::Refusal::Text => "a text has a wrong length, or a byte outside 32 to 126",
         settings::Refusal::Full => "its table is full",
         settings::Refusal::Form =>
-            "the text has not the form of its kind, or there is no such flag",
+            "the text has not the form of its kind, or there is no such flag or setting of it",
         settings::Refusal::ValueBeforeLabel => "no label stands before the value",
         settings::Refusal::Kind => "its columns or its kind are not those of a line",
     }

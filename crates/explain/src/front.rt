@@ -3,8 +3,7 @@ ghost use Rattle.std.specs.Prelude.{◌≡◌, ◌++◌, IfOk, OnOk, Option, map
 ghost use Rattle.lines.specs.Sheets.{content_of, head_of};
 ghost use Rattle.listing.specs.Entries.{rows};
 ghost use Rattle.settings.specs.Meant.{tables};
-ghost use Rattle.explain.specs.Filled.{filling};
-ghost use Rattle.explain.specs.Filling.{filled_by, noted, noting};
+ghost use Rattle.explain.specs.Filling.{filled_by, front_of, noted, noting};
 ghost use Rattle.explain.specs.FrontLine.{front_cause, front_rows, front_tables, listed_with, listing_cause, sets, taken_unless};
 
 use crate::cause::Cause;
@@ -88,7 +87,7 @@ pub fn fill<'a>(
     settings: &mut Settings,
     sheet: &'a [u8],
 ) -> Result<Filled<'a>, AllocError>
-    ensures line_after_line_up_to_the_first_question { IfOk result (λ f. filling (rows listing.new) (tables settings.new) f ≡ filled_by (rows listing.old) (tables settings.old) sheet.now) }
+    ensures line_after_line_up_to_the_first_question { IfOk result (λ f. front_of (rows listing.new) (tables settings.new) f ≡ filled_by (rows listing.old) (tables settings.old) sheet.now) }
 {
     let mut refused = Vec::new(alloc);
     let mut lines = 0u64;

@@ -30,7 +30,7 @@ use sentence::{Labels, Offered, Refused, Told};
 use settings::Settings;
 use std::io::Read;
 use tree::{FileTree, PartCount};
-use trial::trials;
+use trial::{deciding, trials};
 
 // How many parts a path has at most that is handed out.
 const MAX_DEPTH: usize = 255;
@@ -50,6 +50,7 @@ fn explain_text(
     let labels = Labels {
         aliases: settings.aliases(),
         request,
+        decided: deciding(host, settings.aliases(), directory, request),
         trials: trials.as_slice(),
     };
     print!(rt; "{labels}")?;

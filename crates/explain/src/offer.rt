@@ -1,5 +1,5 @@
 // The candidates of a path, each with what stands there and whether it may be handed out.
-ghost use Rattle.std.specs.Prelude.{◌≡◌, ◌≤◌, Bool, IfOk, length, map};
+ghost use Rattle.std.specs.Prelude.{◌≡◌, IfOk, length, map};
 ghost use Rattle.texts.specs.Held.{bytes_of};
 ghost use Rattle.texts.specs.Texts.{Text as Bytes};
 ghost use Rattle.settings.specs.Meant.{tables};

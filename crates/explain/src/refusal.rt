@@ -4,7 +4,7 @@ ghost use Rattle.explain.specs.Refusals.{number_of};
 
 #[derive(Clone, Copy, PartialEq, Eq, Debug)]
 pub enum Refusal {
-    // the line is no request, by its columns or its kind
+    // its columns or its kind are not those of a line
     Line,
     // no lookup can start from the directory
     Directory,

@@ -5,7 +5,7 @@ ghost use Rattle.explain.specs.Legible.{legible, legible_byte, prints};
 use std::fmt;
 
 // Whether a byte prints.
-fn is_graphic(b: u8) -> bool
+fn prints(b: u8) -> bool
     ensures from_32_to_126 { result ≡ prints b }
 {
     b >= b' ' && b <= b'~'
@@ -20,7 +20,7 @@ impl fmt::Display for ShownByte {
 
     fn fmt<W: fmt::Write>(&self, f: &mut fmt::Formatter<W>) -> fmt::Result {
         let b = self.0;
-        if is_graphic(b) {
+        if prints(b) {
             write!(f, "{}", char::from(b))
         } else {
             write!(f, "\\x{b:02x}")

@@ -5,7 +5,7 @@ ghost use Rattle.texts.specs.Texts.{Text as Bytes};
 ghost use Rattle.settings.specs.Rows.{alias_of};
 ghost use Rattle.alias.specs.Attempts.{attempts};
 ghost use Rattle.alias.specs.Left.{said};
-ghost use Rattle.explain.specs.Trials.{tried};
+ghost use Rattle.explain.specs.Trials.{any_tried, deciding, tried};
 
 use alias::{Attempt, Progress};
 use settings::AliasRow;
@@ -76,4 +76,42 @@ pub fn trials<T: FileTree>(
         found.push(Trial::of(&progress, aliases, attempt, &work))?;
     }
     Ok(found)
+}
+
+// Whether something is tried of one of these labels.
+fn makes_an_attempt<T: FileTree>(
+    tree: &mut T,
+    aliases: &[AliasRow],
+    directory: &[u8],
+    request: &[u8],
+) -> bool
+    requires sound { T.FileTree.sound tree.old }
+    ensures attempts_by_definition { result ≡ any_tried (attempts (T.FileTree.meaning tree.old) directory.now request.now (map alias_of aliases.now)) }
+    ensures same_meaning { T.FileTree.meaning tree.new ≡ T.FileTree.meaning tree.old }
+    ensures still_sound { T.FileTree.sound tree.new }
+{
+    let mut work = [0; 255];
+    let mut progress = Progress::new();
+    let attempt = progress.next(tree, aliases, directory, request, &mut work);
+    attempt.is_some()
+}
+
+/// The place of the first label of which something is tried for a request from a directory.
+pub fn deciding<T: FileTree>(
+    tree: &mut T,
+    aliases: &[AliasRow],
+    directory: &[u8],
+    request: &[u8],
+) -> Option<usize>
+    requires sound { T.FileTree.sound tree.old }
+    ensures first_label_that_tries { result ≡ deciding (T.FileTree.meaning tree.old) directory.now request.now (map alias_of aliases.now) }
+    ensures same_meaning { T.FileTree.meaning tree.new ≡ T.FileTree.meaning tree.old }
+    ensures still_sound { T.FileTree.sound tree.new }
+{
+    for i in 0..aliases.len() {
+        if makes_an_attempt(tree, &aliases[i..=i], directory, request) {
+            return Some(i);
+        }
+    }
+    None
 }

@@ -1,11 +1,9 @@
 // The lines on the labels that touch a request, and on what they try.
 ghost use Rattle.std.specs.Prelude.{◌≡◌, [], ◌∷◌, Some, map, take, drop};
 ghost use Rattle.std.specs.List.{flat_map};
-ghost use Rattle.lines.specs.Sheets.{LINE_END};
 ghost use Rattle.settings.specs.Rows.{alias_of};
 ghost use Rattle.alias.specs.Left.{label_of};
-ghost use Rattle.explain.specs.Legible.{phrase};
-ghost use Rattle.explain.specs.Labels.{decided, labels_lines, outcome_words, outcomes_words, passed_over, touching_words, undecided_lines, untouched_line};
+ghost use Rattle.explain.specs.Labels.{decided_lines, labels_lines, outcome_words, outcomes_words, passed_over, touching_words, undecided_lines, untouched_line};
 
 use crate::shown::Shown;
 use crate::trial::{Outcome, Trial};
@@ -38,7 +36,10 @@ impl fmt::Display for OutcomeWords {
                 write!(f, "{}", Shown(path.as_bytes()))
             }
             Outcome::Unmatched => write!(f, ", and where none is found it is refused with 23"),
-            Outcome::TooLong => write!(f, ": refused with 28, since a text passes 255 bytes"),
+            Outcome::TooLong => {
+                f.write_str(if self.first { ": " } else { ", then " })?;
+                write!(f, "refused with 28, since a text passes 255 bytes")
+            }
         }
     }
 }
@@ -176,16 +177,6 @@ fn rows_before(aliases: &[AliasRow], place: usize) -> &[AliasRow]
     &aliases[..place.min(aliases.len())]
 }
 
-// The place of the label of which something is tried.
-fn decided(trials: &[Trial]) -> Option<usize>
-    ensures place_of_the_first_trial { result ≡ decided trials.now }
-{
-    match trials {
-        [trial, ..] => Some(trial.label),
-        [] => None,
-    }
-}
-
 // The lines where nothing is tried.
 #[derive(Clone, Copy)]
 struct UndecidedLines<'a> {
@@ -213,7 +204,7 @@ struct DecidedLines<'a> {
 }
 
 impl fmt::Display for DecidedLines<'_> {
-    ghost output = { λ d. Some (phrase (flat_map (passed_over d.request.now) (map alias_of d.before.now) ∷ touching_words d.request.now d.label.now ∷ outcomes_words d.trials.now ∷ (LINE_END ∷ []) ∷ [])) };
+    ghost output = { λ d. Some (decided_lines (map alias_of d.before.now) d.label.now d.request.now d.trials.now) };
 
     fn fmt<W: fmt::Write>(&self, f: &mut fmt::Formatter<W>) -> fmt::Result {
         let (request, label) = (self.request, self.label);
@@ -226,20 +217,21 @@ impl fmt::Display for DecidedLines<'_> {
     }
 }
 
-/// Which labels touch a request, up to the one that decides, and what its values try.
+/// Which labels touch a request, up to the one that decides, if one does, and what its values try.
 #[derive(Clone, Copy)]
 pub struct Labels<'a> {
     pub aliases: &'a [AliasRow],
     pub request: &'a [u8],
+    pub decided: Option<usize>,
     pub trials: &'a [Trial],
 }
 
 impl fmt::Display for Labels<'_> {
-    ghost output = { λ l. Some (labels_lines (map alias_of l.aliases.now) l.request.now l.trials.now) };
+    ghost output = { λ l. Some (labels_lines (map alias_of l.aliases.now) l.request.now l.decided l.trials.now) };
 
     fn fmt<W: fmt::Write>(&self, f: &mut fmt::Formatter<W>) -> fmt::Result {
         let (aliases, request) = (self.aliases, self.request);
-        match decided(self.trials) {
+        match self.decided {
             None => write!(f, "{}", UndecidedLines { request, aliases }),
             Some(place) => {
                 let lines = DecidedLines {

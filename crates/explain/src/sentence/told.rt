@@ -4,8 +4,7 @@ ghost use Rattle.std.specs.Option.{option_map};
 ghost use Rattle.texts.specs.Held.{bytes_of};
 ghost use Rattle.specifier.specs.Requests.{piece_at};
 ghost use Rattle.explain.specs.Answers.{heard};
-ghost use Rattle.explain.specs.Readings.{said};
-ghost use Rattle.explain.specs.Spoken.{reading_in};
+ghost use Rattle.explain.specs.Readings.{reading_in, said};
 ghost use Rattle.explain.specs.Told.{heard_words, kind_words, looking_words, piece_words, told, way_words};
 
 use crate::answer::Answer;
@@ -57,12 +56,12 @@ impl fmt::Display for Looking<'_> {
 
 // The way, and the path that is looked for.
 #[derive(Clone, Copy)]
-struct Way<'a> {
+struct WayWords<'a> {
     branch: Branch,
     sought: Option<&'a [u8]>,
 }
 
-impl fmt::Display for Way<'_> {
+impl fmt::Display for WayWords<'_> {
     ghost output = { λ w. Some (way_words w.branch (option_map (λ t. t.now) w.sought)) };
 
     fn fmt<W: fmt::Write>(&self, f: &mut fmt::Formatter<W>) -> fmt::Result {
@@ -182,7 +181,7 @@ impl fmt::Display for Told<'_> {
             name: "fragment",
             text: self.fragment,
         };
-        let way = Way {
+        let way = WayWords {
             branch: self.branch,
             sought: self.sought,
         };

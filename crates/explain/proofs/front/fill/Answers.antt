@@ -4,7 +4,7 @@ use Rattle.lines.specs.Sheets.{line_of}
 use Rattle.listing.specs.Entries.{rows}
 use Rattle.settings.specs.Meant.{tables}
 use Rattle.explain.specs.FrontLine.{front_cause, front_rows, front_tables}
-use Rattle.explain.specs.Filling.{Filling, after_line, asks, filled, next_line, noted, noting}
+use Rattle.explain.specs.Filling.{Front, after_line, asks, filled, next_line, noted, noting}
 use Rattle.explain.proofs.FillingSteps.{asked_by, empty_by_length, stops_at_a_question, stops_at_the_end, takes_a_line}
 use Rattle.explain.proofs.front.fill.Goals as goal
 use Rattle.explain.proofs.front.fill.Goals.{else-loop-line-test, then-loop-line-test+then-is_ok}
@@ -14,7 +14,7 @@ loop-line-preserved c =
     let rs = rows c.loop-line.listing in
     let t = tables c.loop-line.settings in
     let rest = c.loop-line.rest.now in
-    let s : Filling = record { rows = rs; tables = t; lines = c.loop-line.lines; refused = map noted c.loop-line.refused.items; rest = rest } in
+    let s : Front = record { rows = rs; tables = t; lines = c.loop-line.lines; refused = map noted c.loop-line.refused.items; rest = rest } in
     let inv = c.loop-line.invariant in
     let line = c.first_line.ensures.up_to_the_line_end in
     let more = sym (empty_by_length rest) ∙ sym c.is_empty.ensures ∙ c.loop-line-test.true in
@@ -25,7 +25,7 @@ loop-line-preserved c =
     c.in_ok-note.ensures.noted_behind_the_others (front_cause rs t c.first_line.result.0.now) c.take-taken.ensures.taken_or_refused
     ∙ ap (λ (n : ℕ). s.refused ++ noting (front_cause rs t c.first_line.result.0.now) n c.first_line.result.0.now) c.saturating_add-lines.ensures
     ∙ ap (λ (l : Text). s.refused ++ noting (front_cause rs t l) (next_line s.lines) l) line in
-    let then : ◌≡◌ {A = Filling} (record { rows = rows c.take-taken.new.listing; tables = tables c.take-taken.new.settings; lines = c.saturating_add-lines.result; refused = map noted c.note.new.refused.items; rest = c.first_line.result.1.now }) (after_line s (line_of rest)) =
+    let then : ◌≡◌ {A = Front} (record { rows = rows c.take-taken.new.listing; tables = tables c.take-taken.new.settings; lines = c.saturating_add-lines.result; refused = map noted c.note.new.refused.items; rest = c.first_line.result.1.now }) (after_line s (line_of rest)) =
     λ i. record {
       rows = (c.take-taken.ensures.rows_then ∙ ap (front_rows rs) line) i;
       tables = (c.take-taken.ensures.tables_then ∙ ap (front_tables t) line) i;

@@ -5,8 +5,8 @@ use Rattle.std.specs.Option.{option_map}
 use Rattle.std.specs.Fmt.{DisplaysOnOk, ◌++?◌, format_spec, padded_integral, styled_digits_output}
 use Rattle.explain.proofs.shown.ShownByteDisplay.fmt.Goals as goal
 
-pub returns-else-is_graphic-clause-writes : goal.returns-else-is_graphic-clause-writes
-returns-else-is_graphic-clause-writes g c =
+pub returns-else-prints-clause-writes : goal.returns-else-prints-clause-writes
+returns-else-prints-clause-writes g c =
     let b = c.args.self.now.0 in
     let digits =
     ap (styled_digits_output c.in_radix.result) c.laid_out.ensures
@@ -14,5 +14,5 @@ returns-else-is_graphic-clause-writes g c =
     ∙ ap Some (hex_byte false b (omega arith)) in
     let text =
     ap (λ o. Some (codes "\\x") ++? o) digits
-    ∙ ap Some (sym (cond-false _ _ _ (sym c.is_graphic.ensures.from_32_to_126 ∙ c.if-is_graphic.false))) in
-    subst (λ o. DisplaysOnOk g.W.Write.write_str_gives c.args.f.now c.write-else-is_graphic.result o c.write-else-is_graphic.new.self) text c.write-else-is_graphic.ensures.writes
+    ∙ ap Some (sym (cond-false _ _ _ (sym c.prints.ensures.from_32_to_126 ∙ c.if-prints.false))) in
+    subst (λ o. DisplaysOnOk g.W.Write.write_str_gives c.args.f.now c.write-else-prints.result o c.write-else-prints.new.self) text c.write-else-prints.ensures.writes
