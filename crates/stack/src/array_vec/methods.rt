@@ -1,6 +1,7 @@
-// Adding an item behind the others, and reading them.
-ghost use Rattle.std.specs.Prelude.{◌≡◌, ◌≤◌, [], ◌∷◌, ◌++◌, length, is_ok, if◌then◌else◌, nat_lt};
+// Adding items, taking them out, and reading them.
+ghost use Rattle.std.specs.Prelude.{◌≡◌, ◌+◌, ◌≤◌, [], ◌∷◌, ◌++◌, length, take, is_ok, if◌then◌else◌, nat_le, nat_lt, remove};
 ghost use Rattle.stack.specs.Held.{held};
+ghost use Rattle.stack.specs.Items.{item_at};
 
 use crate::array_vec::ArrayVec;
 use crate::lifo::Full;
@@ -27,6 +28,56 @@ impl<T: Copy, const N: usize> ArrayVec<T, N> {
         self.slots[self.len] = item;
         self.len += 1;
         Ok(())
+    }
+
+    /// All of these items more, behind the others; where there is no room for all of them nothing changes.
+    pub fn extend_from_slice(&mut self, items: &[T]) -> Result<(), Full>
+        ensures refused_only_without_room { is_ok result ≡ nat_le (length (held self.old) + length items.now) N }
+        ensures items_after { held self.new ≡ (if is_ok result then held self.old ++ items.now else held self.old) }
+    {
+        if items.len() > N - self.len {
+            return Err(Full);
+        }
+        let end = self.len + items.len();
+        let slots = &mut self.slots[..];
+        slots[self.len..end].copy_from_slice(items);
+        self.len = end;
+        Ok(())
+    }
+
+    /// One item more, before the others; where there is no room nothing changes.
+    pub fn push_front(&mut self, item: T) -> Result<(), Full>
+        ensures refused_only_when_full { is_ok result ≡ nat_lt (length (held self.old)) N }
+        ensures items_after { held self.new ≡ (if is_ok result then item ∷ held self.old else held self.old) }
+    {
+        self.push(item)?;
+        let slots = &mut self.slots[..];
+        slots[0..self.len].rotate_right(1);
+        Ok(())
+    }
+
+    /// Takes out the item at `i`, and those behind it move up; beyond the last nothing changes.
+    pub fn remove(&mut self, i: usize) -> Option<T>
+        ensures item_at_the_place { result ≡ item_at (held self.old) i }
+        ensures items_after { held self.new ≡ remove (held self.old) i }
+    {
+        if i >= self.len {
+            return None;
+        }
+        let item = self.slots[i];
+        let slots = &mut self.slots[..];
+        slots[i..self.len].rotate_left(1);
+        self.len -= 1;
+        Some(item)
+    }
+
+    /// Takes items off the end until there are `n`; a list that has no more stays as it was.
+    pub fn truncate(&mut self, n: usize)
+        ensures items_after { held self.new ≡ take n (held self.old) }
+    {
+        if n < self.len {
+            self.len = n;
+        }
     }
 
     /// The items, in their order.

@@ -1,5 +1,7 @@
 // The struct stands alone in its file: the definitions in specs/ name it.
-ghost use Rattle.std.specs.Prelude.{◌≡◌, ◌≤◌, length};
+ghost use Rattle.std.specs.Prelude.{◌≡◌, ◌≤◌, ⊤, length};
+
+use std::alloc::AllocError;
 
 mod methods;
 
@@ -10,4 +12,16 @@ pub struct ArrayVec<T, const N: usize> {
     len: usize,
     ghost whole: { length slots ≡ N },
     ghost within: { len ≤ N },
+}
+
+impl<T: Copy, const N: usize> Copy for ArrayVec<T, N> {}
+
+impl<T: Copy, const N: usize> Clone for ArrayVec<T, N> {
+    ghost is_clone = { λ v w. w ≡ v };
+
+    ghost is_infallible = { λ _. ⊤ };
+
+    fn clone(&self) -> Result<ArrayVec<T, N>, AllocError> {
+        Ok(*self)
+    }
 }
