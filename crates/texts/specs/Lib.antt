@@ -1,5 +1,6 @@
 pub mod Held
 pub mod Parts
 pub mod Scans
+pub mod Taken
 pub mod Texts
 pub mod Walks

@@ -1,8 +1,9 @@
-// Making such a text, and reading it.
-ghost use Rattle.std.specs.Prelude.{◌≡◌, ◌<◌, ◌≤◌, [], length, MatchOption};
+// Making such a text, adding to it, and reading it.
+ghost use Rattle.std.specs.Prelude.{◌≡◌, ◌+◌, ◌<◌, ◌≤◌, [], ◌++◌, length, take, is_ok, if◌then◌else◌, nat_le, MatchOption};
 ghost use Rattle.texts.specs.Held.{bytes_of};
 
 use crate::text::Text;
+use stack::{ArrayVec, Full};
 
 impl<const N: usize> Text<N> {
     /// The text without a byte.
@@ -10,8 +11,7 @@ impl<const N: usize> Text<N> {
         ensures no_bytes { bytes_of result ≡ [] }
     {
         Text {
-            bytes: [0; N],
-            len: 0,
+            bytes: ArrayVec::new(0),
         }
     }
 
@@ -19,15 +19,26 @@ impl<const N: usize> Text<N> {
     pub fn new(bytes: &[u8]) -> Option<Text<N>>
         ensures same_bytes_or_too_many { MatchOption result (N < length bytes.now) (λ t. bytes_of t ≡ bytes.now) }
     {
-        let len = bytes.len();
-        if len > N {
-            return None;
+        let mut text = Text::empty();
+        match text.push_text(bytes) {
+            Ok(()) => Some(text),
+            Err(Full) => None,
         }
-        let mut held = [0; N];
-        for i in 0..len {
-            held[i] = bytes[i];
-        }
-        Some(Text { bytes: held, len })
+    }
+
+    /// Adds bytes behind the others; where there is no room for all of them the text stays as it was.
+    pub fn push_text(&mut self, more: &[u8]) -> Result<(), Full>
+        ensures refused_only_without_room { is_ok result ≡ nat_le (length (bytes_of self.old) + length more.now) N }
+        ensures bytes_after { bytes_of self.new ≡ (if is_ok result then bytes_of self.old ++ more.now else bytes_of self.old) }
+    {
+        self.bytes.extend_from_slice(more)
+    }
+
+    /// Takes bytes off the end until there are `len`; a text that has no more stays as it was.
+    pub fn truncate(&mut self, len: usize)
+        ensures bytes_after { bytes_of self.new ≡ take len (bytes_of self.old) }
+    {
+        self.bytes.truncate(len);
     }
 
     /// The bytes of the text.
@@ -35,7 +46,6 @@ impl<const N: usize> Text<N> {
         ensures bytes_of_the_text { result.now ≡ bytes_of self.now }
         ensures at_most_n { length result.now ≤ N }
     {
-        let all = &self.bytes[..];
-        &all[0..self.len]
+        self.bytes.as_slice()
     }
 }

@@ -1,12 +1,10 @@
 // Texts held by value, with room for a fixed number of bytes.
-ghost use Rattle.std.specs.Prelude.{◌≤◌, length};
+use stack::ArrayVec;
 
 mod held;
 
 /// A text of at most `N` bytes.
 #[derive(Clone, Copy)]
 pub struct Text<const N: usize> {
-    bytes: [u8; N],
-    len: usize,
-    ghost fits: { len ≤ length bytes },
+    bytes: ArrayVec<u8, N>,
 }
