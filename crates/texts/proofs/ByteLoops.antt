@@ -1,38 +1,30 @@
 -- What a loop over the bytes of a text keeps. Assumes nothing.
-use Rattle.std.proofs.Common.{◌≡◌, ℕ, zero, suc, ◌+◌, ◌-◌, ◌<◌, ◌≤◌, min, Bool, true, false, cond, ◌&&◌, eqb, ltb, leb, List, [], ◌∷◌, ◌++◌, length, get_or, take, drop, sym, refl, ap, ◌∙◌, arith, rules}
+use Rattle.std.proofs.Common.{◌≡◌, ℕ, zero, suc, ◌+◌, ◌-◌, ◌<◌, ◌≤◌, min, Bool, true, false, cond, ◌&&◌, eqb, ltb, leb, List, [], ◌∷◌, ◌++◌, length, get_or, take, drop, Some, None, Option, sym, refl, ap, ◌∙◌, arith, rules}
 use Rattle.std.proofs.lemmas.List.{at_drop_more, places, same_lists, take_more}
-use Rattle.std.proofs.lemmas.Bool.{and_left, and_right, cond-true, cond-false, eq-eqb, ne_eqb, le-ltb, lt-leb, lt-ltb, le-leb}
+use Rattle.std.proofs.lemmas.Bool.{and_left, and_right, cond-true, cond-false, eq-eqb, ne_eqb, le-ltb, lt-leb, lt-ltb, le-leb, ltb-false}
 use Rattle.std.proofs.lemmas.Bool.Decides.{nat_tests}
+use Rattle.std.proofs.lemmas.List.Recursion.{is_position_or_len}
+use Rattle.std.specs.List.{position_or_len}
+use Rattle.std.specs.Option.{unwrap_or}
 use Rattle.texts.specs.Texts.{Text, SLASH, ascii, empty, has, printable, unslashed, until}
 
-module _ (t : Text) (i : ℕ) (inside : i < length t) where
-  pub ascii_on : get_or t i 0 ≤ 127 → ascii (drop i t) ≡ ascii (drop (i + 1) t)
-  ascii_on h = at_drop_more ascii t i 0 inside ∙ ap (λ b. b && ascii (drop (i + 1) t)) (le-leb _ _ h)
+-- a place that is found is below the length, and the length stands for none
+pub found_or_all : (n len : ℕ) (r : Option ℕ) → n ≤ len → r ≡ cond (ltb n len) (Some n) None → unwrap_or r len ≡ n
+found_or_all n len r low is = ap (λ (o : Option ℕ). unwrap_or o len) is ∙ at (ltb n len) refl
+  where
+    at : (v : Bool) → ltb n len ≡ v → unwrap_or (cond v (Some n) None) len ≡ n
+    at true e = refl
+    at false e = omega (arith, ltb-false n len e)
 
-  pub ascii_stops : 127 < get_or t i 0 → ascii (drop i t) ≡ false
-  ascii_stops h = at_drop_more ascii t i 0 inside ∙ and_left _ _ (lt-leb _ _ h)
-
-  pub printable_on : 32 ≤ get_or t i 0 → get_or t i 0 ≤ 126 → printable (drop i t) ≡ printable (drop (i + 1) t)
-  printable_on low high =
-      at_drop_more printable t i 0 inside
-      ∙ ap (λ (b : Bool). b && (leb (get_or t i 0) 126 && printable (drop (i + 1) t))) (le-leb _ _ low)
-      ∙ ap (λ (b : Bool). b && printable (drop (i + 1) t)) (le-leb _ _ high)
-
-  pub low_stops : get_or t i 0 < 32 → printable (drop i t) ≡ false
-  low_stops low = at_drop_more printable t i 0 inside ∙ and_left _ _ (lt-leb _ _ low)
-
-  pub high_stops : 126 < get_or t i 0 → printable (drop i t) ≡ false
-  high_stops high = at_drop_more printable t i 0 inside ∙ and_right _ _ (and_left _ _ (lt-leb _ _ high))
-
-  pub until_on : (b : ℕ) → (get_or t i 0 ≡ b → ⊥) → until b (drop i t) ≡ suc (until b (drop (i + 1) t))
-  until_on b other = at_drop_more (until b) t i 0 inside ∙ cond-false _ _ _ (ne_eqb _ b other)
-
-  pub until_stops : (b : ℕ) → get_or t i 0 ≡ b → until b (drop i t) ≡ 0
-  until_stops b same = at_drop_more (until b) t i 0 inside ∙ cond-true _ _ _ (eq-eqb _ b same)
+until_step : (b c : ℕ) (t : Text) → until b (c ∷ t) ≡ cond (eqb c b) 0 (1 + until b t)
+until_step b c t = ap (λ (n : ℕ). cond (eqb c b) 0 n) (omega arith)
 
 pub until_le : (b : ℕ) (t : Text) → until b t ≤ length t
 until_le b [] = omega arith
 until_le b (c ∷ t) = let h = until_le b t in grind (arith, nat_tests)
+
+pub until_is : (b : ℕ) (t : Text) → until b t ≡ position_or_len (λ c. eqb c b) t
+until_is b t = is_position_or_len (until b) (λ c. eqb c b) refl (until_step b) t
 
 -- a byte is there if fewer bytes stand before it than there are
 pub has_until : (b : ℕ) (t : Text) → has b t ≡ ltb (until b t) (length t)

@@ -28,7 +28,7 @@ ascii (b ∷ s) = nat_le b 127 && ascii s
 -- every byte is one that an office may write, 32 to 126
 abbrev pub printable : Text → Bool
 printable [] = true
-printable (b ∷ s) = nat_le 32 b && (nat_le b 126 && printable s)
+printable (b ∷ s) = (nat_le 32 b && nat_le b 126) && printable s
 
 -- at most 255 bytes
 abbrev pub fits : Text → Bool

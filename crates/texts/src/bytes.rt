@@ -18,24 +18,15 @@ const MAX_PRINTABLE: u8 = 126;
 pub fn is_ascii(text: &[u8]) -> bool
     ensures every_byte_is_at_most_127 { result ≡ ascii text.now }
 {
-    for b in text {
-        if *b > MAX_BYTE {
-            return false;
-        }
-    }
-    true
+    text.iter().all(|b| *b <= MAX_BYTE)
 }
 
 /// Whether every byte is one that an office may write, 32 to 126.
 pub fn is_printable(text: &[u8]) -> bool
     ensures every_byte_is_32_to_126 { result ≡ printable text.now }
 {
-    for b in text {
-        if *b < MIN_PRINTABLE || *b > MAX_PRINTABLE {
-            return false;
-        }
-    }
-    true
+    text.iter()
+        .all(|b| *b >= MIN_PRINTABLE && *b <= MAX_PRINTABLE)
 }
 
 /// Whether the bytes are a text: at most 255, each at most 127.
@@ -57,12 +48,7 @@ pub fn position(text: &[u8], byte: u8) -> usize
     ensures stands_before_the_first { result ≡ until byte text.now }
     ensures within_the_text { result ≤ length text.now }
 {
-    for i in 0..text.len() {
-        if text[i] == byte {
-            return i;
-        }
-    }
-    text.len()
+    text.iter().position(|b| *b == byte).unwrap_or(text.len())
 }
 
 /// Copies `text` to the front of `out` and says how long it is; a text that does not fit is refused, and `out` stays as it was.
@@ -98,9 +84,9 @@ pub fn append_text(out: &mut [u8], len: usize, more: &[u8]) -> Option<usize>
 pub fn trim_final_slashes(text: &[u8]) -> &[u8]
     ensures no_final_slash { result.now ≡ unslashed text.now }
 {
-    let mut len = text.len();
-    while len > 0 && text[len - 1] == b'/' {
-        len -= 1;
+    let mut kept = text;
+    while let [front @ .., b'/'] = kept {
+        kept = front;
     }
-    &text[0..len]
+    kept
 }

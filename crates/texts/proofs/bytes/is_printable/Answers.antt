@@ -1,24 +1,7 @@
-use Rattle.std.proofs.Common.{sym, ◌∙◌, arith}
-use Rattle.std.proofs.lemmas.List.{at_drop_all}
+use Rattle.std.proofs.Common.{◌&&◌, leb, refl, rules}
+use Rattle.std.proofs.lemmas.List.Recursion.{and_is}
 use Rattle.texts.specs.Texts.{printable}
-use Rattle.texts.proofs.ByteLoops.{high_stops, low_stops, printable_on}
 use Rattle.texts.proofs.bytes.is_printable.Goals as goal
-use Rattle.texts.proofs.bytes.is_printable.Goals.{then-b-lt-MIN_PRINTABLE-via-then-b-lt-MIN_PRINTABLE, then-b-lt-MIN_PRINTABLE-via-else-b-lt-MIN_PRINTABLE+then-b-gt-MAX_PRINTABLE}
-
-pub returns-then-b-lt-MIN_PRINTABLE : goal.returns-then-b-lt-MIN_PRINTABLE
-returns-then-b-lt-MIN_PRINTABLE c =
-    let t = c.args.text.now in
-    let i = c.loop-b.b-index in
-    record {
-      every_byte_is_32_to_126 =
-          elim c.then-b-lt-MIN_PRINTABLE.branch [
-            | then-b-lt-MIN_PRINTABLE-via-then-b-lt-MIN_PRINTABLE w ↦ sym (low_stops t i (omega arith) w.if-b-lt-MIN_PRINTABLE.true) ∙ c.loop-b.invariant
-            | then-b-lt-MIN_PRINTABLE-via-else-b-lt-MIN_PRINTABLE+then-b-gt-MAX_PRINTABLE w ↦ sym (high_stops t i (omega arith) w.if-b-gt-MAX_PRINTABLE.true) ∙ c.loop-b.invariant
-          ];
-    }
-
-pub loop-b-preserved : goal.loop-b-preserved
-loop-b-preserved c = sym (printable_on c.args.text.now c.loop-b.b-index (omega arith) c.if-b-lt-MIN_PRINTABLE.false c.if-b-gt-MAX_PRINTABLE.false) ∙ c.loop-b.invariant
 
 pub returns : goal.returns
-returns c = record { every_byte_is_32_to_126 = sym (at_drop_all printable c.args.text.now c.loop-b.b-index (omega arith)) ∙ c.loop-b.invariant }
+returns c = record { every_byte_is_32_to_126 = and_is printable (λ b. leb 32 b && leb b 126) refl (λ _ _. refl) c.args.text.now 0 c.all.result (search rules) (search rules) }

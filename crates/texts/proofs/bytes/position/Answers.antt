@@ -1,16 +1,15 @@
-use Rattle.std.proofs.Common.{arith}
-use Rattle.std.proofs.lemmas.List.{at_drop_all}
+use Rattle.std.proofs.Common.{◌≡◌, ◌≤◌, eqb, length, sym, ◌∙◌, rules, arith}
+use Rattle.std.proofs.lemmas.Iterator.{YieldsList-from_slice}
+use Rattle.std.proofs.lemmas.Iterator.Search.{position_from_yields_List}
 use Rattle.texts.specs.Texts.{until}
-use Rattle.texts.proofs.ByteLoops.{until_on, until_stops}
+use Rattle.texts.proofs.ByteLoops.{found_or_all, until_is, until_le}
 use Rattle.texts.proofs.bytes.position.Goals as goal
-
-pub returns-then-text-i : goal.returns-then-text-i
-returns-then-text-i c =
-    record { stands_before_the_first = omega (arith, until_stops c.args.text.now c.loop-i.i c.loop-i-test.true c.args.byte c.if-text-i.true); within_the_text = omega arith }
-
-pub loop-i-preserved : goal.loop-i-preserved
-loop-i-preserved c = omega (arith, until_on c.args.text.now c.loop-i.i c.loop-i-test.true c.args.byte c.if-text-i.false)
 
 pub returns : goal.returns
 returns c =
-    record { stands_before_the_first = omega (arith, at_drop_all (until c.args.byte) c.args.text.now c.loop-i.i c.loop-i-test.false); within_the_text = omega arith }
+    let t = c.args.text.now in
+    let within : until c.args.byte t ≤ length t = until_le c.args.byte t in
+    let same = until_is c.args.byte t in
+    let found = position_from_yields_List (λ b. eqb b c.args.byte) _ _ _ c.position.ensures.ran (YieldsList-from_slice t cc) (λ x b q k. search rules) in
+    let is = c.unwrap_or.ensures ∙ found_or_all _ (length t) _ (omega (arith, same)) found ∙ sym same in
+    record { stands_before_the_first = is; within_the_text = omega (arith, is) }

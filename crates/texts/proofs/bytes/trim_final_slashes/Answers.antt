@@ -1,25 +1,23 @@
-use Rattle.std.proofs.Common.{◌≡◌, ◌-◌, length, take, sym, ap, ◌∙◌, arith}
+use Rattle.std.proofs.Common.{◌≡◌, ◌≤◌, length, take, sym, ap, ◌∙◌, arith}
 use Rattle.std.proofs.lemmas.List.{take_all}
-use Rattle.texts.specs.Texts.{unslashed}
-use Rattle.texts.proofs.ByteLoops.{slash_off, other_stays, none_stays}
+use Rattle.texts.specs.Texts.{Text, unslashed}
+use Rattle.texts.proofs.ByteLoops.{none_stays, other_stays, slash_off}
 use Rattle.texts.proofs.bytes.trim_final_slashes.Goals as goal
-use Rattle.texts.proofs.bytes.trim_final_slashes.Goals.{then-loop-len-test+else-text-len-eq47, else-loop-len-test}
 
-pub loop-len-init : goal.loop-len-init
-loop-len-init c = (omega arith, ap unslashed (take_all (length c.args.text.now) c.args.text.now (omega arith)))
+whole : (t : Text) → unslashed (take (length t) t) ≡ unslashed t
+whole t = ap unslashed (take_all (length t) t (omega arith))
 
-pub loop-len-preserved : goal.loop-len-preserved
-loop-len-preserved c =
-    (omega arith, sym (slash_off c.args.text.now c.loop-len.len (omega arith) (omega arith) c.if-text-len-eq47.true) ∙ c.loop-len.invariant.1)
+pub loop-kept-preserved : goal.loop-kept-preserved
+loop-kept-preserved c =
+    let t = c.loop-kept.kept.now in
+    sym (slash_off t (length t) (omega arith) (omega arith) (omega arith)) ∙ whole t ∙ c.loop-kept.invariant
 
-pub returns : goal.returns
-returns c =
-    let t = c.args.text.now in
-    let n = c.loop-len.len in
-    let from : n - 0 ≡ n = omega arith in
-    let done : unslashed (take n t) ≡ take n t =
-    elim c.loop-len-test.branch [
-      | then-loop-len-test+else-text-len-eq47 w ↦ other_stays t n w.loop-len-test.true c.loop-len.invariant.0 w.if-text-len-eq47.false
-      | else-loop-len-test w ↦ none_stays t n w.loop-len-test.false
-    ] in
-    record { no_final_slash = ap (λ k. take k t) from ∙ sym done ∙ c.loop-len.invariant.1 }
+pub returns-in_default : goal.returns-in_default
+returns-in_default c =
+    let t = c.loop-kept.kept.now in
+    record { no_final_slash = sym (take_all (length t) t (omega arith)) ∙ sym (none_stays t (length t) (omega arith)) ∙ whole t ∙ c.loop-kept.invariant }
+
+pub returns-in_default-2 : goal.returns-in_default-2
+returns-in_default-2 c =
+    let t = c.loop-kept.kept.now in
+    record { no_final_slash = sym (take_all (length t) t (omega arith)) ∙ sym (other_stays t (length t) (omega arith) (omega arith) (λ e. omega arith)) ∙ whole t ∙ c.loop-kept.invariant }

@@ -1,9 +1,9 @@
-use Rattle.std.proofs.Common.{◌≡◌, ◌≤◌, length, take}
+use Rattle.std.proofs.Common.{◌≡◌, length}
 use Rattle.texts.specs.Texts.{unslashed}
 use Rattle.texts.proofs.bytes.trim_final_slashes.Given as goal
 
-abbrev pub invariant-loop-len : goal.invariant-loop-len
-invariant-loop-len l = (l.len ≤ length l.text) × (unslashed (take l.len l.text) ≡ unslashed l.text)
+abbrev pub invariant-loop-kept : goal.invariant-loop-kept
+invariant-loop-kept l = unslashed l.kept ≡ unslashed l.text
 
-abbrev pub decreases-loop-len : goal.decreases-loop-len
-decreases-loop-len l = l.len
+abbrev pub decreases-loop-kept : goal.decreases-loop-kept
+decreases-loop-kept l = length l.kept
