@@ -14,17 +14,6 @@ use Rattle.paths.specs.Joins.{component, last_but_one, cut, cut_length, grown, g
 use Rattle.texts.proofs.PartLoops.{some≢none}
 use Rattle.texts.proofs.Weights.{weight, pieces_weight}
 
--- the last byte, by its index
-pub ends_at : (b : ℕ) (s : Text) → 0 < length s → ends b s ≡ eqb (get_or s (length s - 1) 0) b
-ends_at b [] h = absurd (omega arith)
-ends_at b (c ∷ []) h = refl
-ends_at b (c ∷ d ∷ s) h =
-    let at : suc (length s) ≡ suc (suc (length s)) - 1 = omega arith in
-    let down : suc (length s) - 1 ≡ length s = omega arith in
-    ends_at b (d ∷ s) (omega arith)
-    ∙ ap (λ (n : ℕ). eqb (get_or (d ∷ s) n 0) b) down
-    ∙ ap (λ (n : ℕ). eqb (get_or (c ∷ d ∷ s) n 0) b) at
-
 -- a part ends behind its first byte and within its text
 abbrev Ending : ℕ → Mark → Type 0
 Ending n m = (length m.0 ≤ m.1) × (m.1 < n)

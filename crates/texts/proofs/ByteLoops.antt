@@ -1,12 +1,12 @@
 -- What a loop over the bytes of a text keeps. Assumes nothing.
-use Rattle.std.proofs.Common.{◌≡◌, ℕ, zero, suc, ◌+◌, ◌-◌, ◌<◌, ◌≤◌, min, Bool, true, false, cond, ◌&&◌, eqb, ltb, leb, List, [], ◌∷◌, ◌++◌, length, get_or, take, drop, Some, None, Option, sym, refl, ap, ◌∙◌, arith, rules}
-use Rattle.std.proofs.lemmas.List.{at_drop_more, places, same_lists, take_more}
-use Rattle.std.proofs.lemmas.Bool.{and_left, and_right, cond-true, cond-false, eq-eqb, ne_eqb, le-ltb, lt-leb, lt-ltb, le-leb, ltb-false}
+use Rattle.std.proofs.Common.{◌≡◌, ℕ, zero, suc, ◌+◌, ◌-◌, ◌<◌, ◌≤◌, min, Bool, true, false, cond, ◌&&◌, eqb, ltb, List, [], ◌∷◌, ◌++◌, length, get_or, take, drop, Some, None, Option, sym, refl, ap, ◌∙◌, arith, rules}
+use Rattle.std.proofs.lemmas.List.{places, same_lists, take_more}
+use Rattle.std.proofs.lemmas.Bool.{and_left, cond-false, ne_eqb, le-ltb, lt-ltb, ltb-false}
 use Rattle.std.proofs.lemmas.Bool.Decides.{nat_tests}
 use Rattle.std.proofs.lemmas.List.Recursion.{is_position_or_len}
 use Rattle.std.specs.List.{position_or_len}
 use Rattle.std.specs.Option.{unwrap_or}
-use Rattle.texts.specs.Texts.{Text, SLASH, ascii, empty, has, printable, unslashed, until}
+use Rattle.texts.specs.Texts.{Text, SLASH, empty, ends, has, unslashed, until}
 
 -- a place that is found is below the length, and the length stands for none
 pub found_or_all : (n len : ℕ) (r : Option ℕ) → n ≤ len → r ≡ cond (ltb n len) (Some n) None → unwrap_or r len ≡ n
@@ -67,3 +67,14 @@ module _ (t : Text) (n : ℕ) (some : 0 < n) (within : n ≤ length t) where
 pub none_stays : (t : Text) (n : ℕ) → n ≤ 0 → unslashed (take n t) ≡ take n t
 none_stays t zero h = refl
 none_stays t (suc n) h = absurd (omega arith)
+
+-- the last byte decides how a text ends
+pub ends_at : (b : ℕ) (s : Text) → 0 < length s → ends b s ≡ eqb (get_or s (length s - 1) 0) b
+ends_at b [] h = absurd (omega arith)
+ends_at b (c ∷ []) h = refl
+ends_at b (c ∷ d ∷ s) h =
+    let at : suc (length s) ≡ suc (suc (length s)) - 1 = omega arith in
+    let down : suc (length s) - 1 ≡ length s = omega arith in
+    ends_at b (d ∷ s) (omega arith)
+    ∙ ap (λ (n : ℕ). eqb (get_or (d ∷ s) n 0) b) down
+    ∙ ap (λ (n : ℕ). eqb (get_or (c ∷ d ∷ s) n 0) b) at

@@ -1,39 +1,30 @@
 -- What a loop over the parts of a text keeps. Assumes nothing.
-use Rattle.std.proofs.Common.{◌≡◌, ℕ, suc, ◌+◌, ◌<◌, ◌≤◌, Bool, true, false, cond, not, ◌&&◌, List, [], ◌∷◌, ◌++◌, map, length, get_or, take, drop, is_some, Some, None, Option, sym, refl, ap, ◌∙◌, arith}
+use Rattle.std.proofs.Common.{◌≡◌, ℕ, suc, ◌+◌, ◌<◌, ◌≤◌, Bool, true, false, cond, eqb, not, ◌&&◌, List, [], ◌∷◌, ◌++◌, map, length, get_or, take, is_some, Some, None, Option, sym, refl, ap, ◌∙◌, arith}
 use Rattle.std.specs.Str.{bytes_eq}
-use Rattle.std.proofs.lemmas.List.{append_assoc, append-nil, drop-drop, length-append, length-drop, take-append-le, take_at}
-use Rattle.std.specs.List.{between}
+use Rattle.std.proofs.lemmas.List.{append_assoc, append-nil, length-append, take-append-le, take_at}
+use Rattle.std.specs.List.{between, onto_first, slice_split}
 use Rattle.std.proofs.lemmas.Slice.{first_rest}
-use Rattle.std.proofs.lemmas.Bool.{and_left, not-false, not-true, cond-true, cond-false, lt-ltb, le-ltb, ne_eqb}
+use Rattle.std.proofs.lemmas.Bool.{and_left, not-false, not-true, ne_eqb}
 use Rattle.texts.specs.declared.place.Place.{Place}
 use Rattle.texts.specs.Texts.{Text, SLASH, empty, until}
-use Rattle.texts.specs.Parts.{Mark, pieces, clean_pieces, named, every, texts_of, place_of, same_parts}
+use Rattle.texts.specs.Parts.{Mark, before, pieces, clean_pieces, named, every, texts_of, place_of, same_parts}
 use Rattle.texts.specs.Walks.{first_place, first_text, but_first}
 use Rattle.texts.proofs.Scans.{others, pieces_slash, pieces_split}
 
 pub some≢none : {X : Type 0} {x : X} → Some x ≡ None → ⊥
 some≢none {X} {x} e = let z : ◌≡◌ {A = ℕ} 0 1 = cc in omega arith
 
--- the piece at `start` is a name, and so are the others
-module _ (t : Text) (start len : ℕ) (inside : start ≤ length t) (size : len ≡ until SLASH (drop start t)) where
-  names_split : every named (pieces (drop start t)) ≡ (named (take len (drop start t)) && every named (others (drop start t)))
-  names_split = ap (every named) (pieces_split (drop start t)) ∙ ap (λ (n : ℕ). named (take n (drop start t)) && every named (others (drop start t))) (sym size)
+-- the pieces of a text are what stands between its slashes
+before_is : (b : ℕ) (ps : List Text) → before b ps ≡ onto_first b ps
+before_is b [] = refl
+before_is b (p ∷ ps) = refl
 
-  pub names_more : start + len < length t → named (take len (drop start t)) ≡ true → every named (pieces (drop start t)) ≡ every named (pieces (drop (start + len + 1) t))
-  names_more more name =
-      let next : start + (until SLASH (drop start t) + 1) ≡ start + len + 1 = omega (arith, size) in
-      names_split
-      ∙ ap (λ (v : Bool). v && every named (others (drop start t))) name
-      ∙ ap (every named) (cond-true _ _ _ (lt-ltb (until SLASH (drop start t)) (length (drop start t)) (omega (arith, size, length-drop start t))) ∙ ap pieces (drop-drop (until SLASH (drop start t) + 1) start t ∙ ap (λ (n : ℕ). drop n t) next))
-
-  pub names_all : length t ≤ start + len → named (take len (drop start t)) ≡ true → every named (pieces (drop start t)) ≡ true
-  names_all last name =
-      names_split
-      ∙ ap (λ (v : Bool). v && every named (others (drop start t))) name
-      ∙ ap (every named) (cond-false _ _ _ (le-ltb (until SLASH (drop start t)) (length (drop start t)) (omega (arith, size, length-drop start t))))
-
-  pub names_not : named (take len (drop start t)) ≡ false → every named (pieces (drop start t)) ≡ false
-  names_not name = names_split ∙ ap (λ (v : Bool). v && every named (others (drop start t))) name
+pub pieces_between : (s : Text) → pieces s ≡ slice_split (λ b. eqb b SLASH) s
+unfolding pieces
+pieces_between [] = refl
+pieces_between (b ∷ s) =
+    ap (λ (ps : List Text). cond (eqb b SLASH) ([] ∷ ps) (before b ps)) (pieces_between s)
+    ∙ ap (λ (ps : List Text). cond (eqb b SLASH) ([] ∷ slice_split (λ c. eqb c SLASH) s) ps) (before_is b (slice_split (λ c. eqb c SLASH) s))
 
 -- a slash leads a clean path, and names follow
 pub rooted_names : (s : Text) → clean_pieces (pieces (SLASH ∷ s)) ≡ every named (pieces s)

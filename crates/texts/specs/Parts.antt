@@ -1,5 +1,6 @@
 -- The parts of a text, paths that are the same, and clean paths. Assumes nothing.
 use Rattle.std.specs.Prelude.{ℕ, ◌+◌, ◌-◌, Bool, true, false, cond, not, ◌&&◌, List, [], ◌∷◌, ◌++◌, map, length, take, drop, ◌==◌}
+use Rattle.std.specs.List.{list_all}
 use Rattle.std.specs.Str.{bytes_eq}
 use Rattle.texts.specs.declared.place.Place.{Place}
 use Rattle.texts.specs.Texts.{Text, DOT, SLASH, empty}
@@ -82,8 +83,7 @@ same_parts (p ∷ ps) (q ∷ qs) = bytes_eq p q && same_parts ps qs
 
 -- every text of the list passes the test
 abbrev pub every : (Text → Bool) → List Text → Bool
-every f [] = true
-every f (p ∷ ps) = f p && every f ps
+every f ps = list_all f ps
 
 -- a piece that a clean path may have: not empty, not `.`, not `..`
 abbrev pub named : Text → Bool

@@ -1,4 +1,5 @@
 -- Texts: the bytes that the rules name, when bytes are a text, and a buffer after a text was copied into it. Assumes nothing.
+use Rattle.std.specs.List.{list_all}
 use Rattle.std.specs.Prelude.{ℕ, suc, Bool, true, false, cond, ◌&&◌, List, [], ◌∷◌, ◌++◌, length, take, drop, Some, None, Option, ◌==◌, nat_le}
 
 -- a text, by its bytes
@@ -22,13 +23,11 @@ QUESTION = 63
 
 -- every byte is at most 127
 abbrev pub ascii : Text → Bool
-ascii [] = true
-ascii (b ∷ s) = nat_le b 127 && ascii s
+ascii s = list_all (λ b. nat_le b 127) s
 
 -- every byte is one that an office may write, 32 to 126
 abbrev pub printable : Text → Bool
-printable [] = true
-printable (b ∷ s) = (nat_le 32 b && nat_le b 126) && printable s
+printable s = list_all (λ b. nat_le 32 b && nat_le b 126) s
 
 -- at most 255 bytes
 abbrev pub fits : Text → Bool

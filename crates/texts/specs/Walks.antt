@@ -1,5 +1,5 @@
 -- What a scan over a text's parts has still to give. Assumes nothing.
-use Rattle.std.specs.Prelude.{Bool, List, [], ◌∷◌, Some, None, Option, nat_lt}
+use Rattle.std.specs.Prelude.{Bool, List, [], ◌∷◌, map, Some, None, Option, nat_lt}
 use Rattle.texts.specs.declared.components.Components.{Components}
 use Rattle.texts.specs.declared.place.Place.{Place}
 use Rattle.texts.specs.Texts.{Text}
@@ -13,6 +13,10 @@ subject c = c.text.now
 -- the parts that are left, with their ends
 abbrev pub left : Components → List Mark
 left c = marks_left c.text.now c.at
+
+-- where they stand
+abbrev pub places_left : Components → List Place
+places_left c = map place_of (left c)
 
 -- the place of the first part of a list
 abbrev pub first_place : List Mark → Option Place

@@ -1,7 +1,7 @@
 // A text by its bytes.
 ghost use Rattle.std.specs.Prelude.{◌≡◌, ◌≤◌, length, Some};
 ghost use Rattle.std.specs.Str.{bytes_eq};
-ghost use Rattle.texts.specs.Texts.{appended, ascii, is_text, printable, until, length_in, buffer_with, unslashed};
+ghost use Rattle.texts.specs.Texts.{appended, ascii, ends, is_text, printable, until, length_in, buffer_with, unslashed};
 
 /// The longest text, in bytes.
 pub const MAX_LEN: usize = 255;
@@ -49,6 +49,16 @@ pub fn position(text: &[u8], byte: u8) -> usize
     ensures within_the_text { result ≤ length text.now }
 {
     text.iter().position(|b| *b == byte).unwrap_or(text.len())
+}
+
+/// Whether the last byte of a text is `byte`; an empty text has none.
+pub fn ends_in(text: &[u8], byte: u8) -> bool
+    ensures byte_at_the_end { result ≡ ends byte text.now }
+{
+    match text {
+        [.., last] => *last == byte,
+        [] => false,
+    }
 }
 
 /// Copies `text` to the front of `out` and says how long it is; a text that does not fit is refused, and `out` stays as it was.

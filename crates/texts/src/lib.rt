@@ -9,8 +9,8 @@ mod place;
 mod text;
 
 pub use bytes::{
-    MAX_LEN, append_text, copy_text, is_ascii, is_printable, is_text, position, same_bytes,
-    trim_final_slashes,
+    MAX_LEN, append_text, copy_text, ends_in, is_ascii, is_printable, is_text, position,
+    same_bytes, trim_final_slashes,
 };
 pub use components::Components;
 pub use path::{count_parts, is_clean, push_parts, same_path};

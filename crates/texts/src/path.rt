@@ -13,19 +13,7 @@ use stack::{Full, Stack};
 fn names_only(text: &[u8]) -> bool
     ensures every_piece_is_a_name { result ≡ every named (pieces text.now) }
 {
-    let mut start = 0;
-    loop {
-        let len = piece_len(text, start);
-        let place = Place { start, len };
-        if !is_name(place.of(text)) {
-            return false;
-        }
-        let end = start + len;
-        if end == text.len() {
-            return true;
-        }
-        start = end + 1;
-    }
+    text.split(|b| *b == b'/').all(is_name)
 }
 
 // Whether a slash leads and every piece behind it is a name.
@@ -50,9 +38,8 @@ pub fn is_clean(text: &[u8]) -> bool
 pub fn same_path(a: &[u8], b: &[u8]) -> bool
     ensures part_for_part { result ≡ same_parts (parts a.now) (parts b.now) }
 {
-    let mut left = Components::new(a);
     let mut right = Components::new(b);
-    while let Some(part) = left.next() {
+    for part in Components::new(a) {
         let Some(other) = right.next() else {
             return false;
         };
@@ -67,12 +54,7 @@ pub fn same_path(a: &[u8], b: &[u8]) -> bool
 pub fn count_parts(text: &[u8]) -> usize
     ensures as_many_as_parts { result ≡ length (parts text.now) }
 {
-    let mut components = Components::new(text);
-    let mut count = 0;
-    while let Some(_) = components.next() {
-        count += 1;
-    }
-    count
+    Components::new(text).count()
 }
 
 /// Pushes the places of the parts of `text`; where there is no room for all of them the stack keeps the items that it had.
@@ -82,8 +64,7 @@ pub fn push_parts(text: &[u8], found: &mut Stack<Place>) -> Result<(), Full>
     ensures same_capacity { capacity found.new ≡ capacity found.old }
 {
     let had = found.len();
-    let mut components = Components::new(text);
-    while let Some(place) = components.next() {
+    for place in Components::new(text) {
         if found.push(place).is_err() {
             found.truncate(had);
             return Err(Full);

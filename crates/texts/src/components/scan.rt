@@ -1,8 +1,9 @@
 // How a scan of a text finds its parts.
-ghost use Rattle.std.specs.Prelude.{◌≡◌, ◌<◌, ◌≤◌, true, [], ◌∷◌, length, MatchOption, OnSome};
+ghost use Rattle.std.specs.Prelude.{◌≡◌, ◌<◌, ◌≤◌, true, ⊤, [], ◌∷◌, length, MatchOption, OnSome};
 ghost use Rattle.texts.specs.Parts.{marks, parts, root, texts_of};
 ghost use Rattle.texts.specs.Scans.{marks_left, Next, rest_text};
-ghost use Rattle.texts.specs.Walks.{begun, left, subject, first_place, first_text, places_to_text, but_first};
+ghost use Rattle.std.specs.Iterator.{MakesProgress, YieldsFirst, item_count};
+ghost use Rattle.texts.specs.Walks.{begun, left, subject, first_place, first_text, places_left, places_to_text, but_first};
 
 use crate::bytes::position;
 use crate::components::Components;
@@ -23,7 +24,7 @@ fn first_part(text: &[u8]) -> Option<Place>
     }
 }
 
-// The next part behind `at`, where an earlier one ended.
+// The next part behind `at`, where an earlier one ended. Its place is wanted, and `split` would give the pieces without their places.
 fn later_part(text: &[u8], at: usize) -> Option<Place>
     requires { (0 < at) × (at ≤ length text.now) }
     ensures next_part_or_none_left { MatchOption result (marks_left text.now at ≡ []) (Next text.now at) }
@@ -64,19 +65,6 @@ impl<'a> Components<'a> {
         Components { text, at: 0 }
     }
 
-    /// The place of the next part; none behind the last.
-    pub fn next(&mut self) -> Option<Place>
-        ensures place_of_the_next_part { result ≡ first_place (left self.old) }
-        ensures part_stands_there { places_to_text result (subject self.old) ≡ first_text (left self.old) }
-        ensures others_are_left { left self.new ≡ but_first (left self.old) }
-        ensures same_text { subject self.new ≡ subject self.old }
-        ensures scan_has_begun { OnSome result (begun self.new ≡ true) }
-    {
-        let place = next_part(self.text, self.at)?;
-        self.at = place.start + place.len;
-        Some(place)
-    }
-
     /// What stands behind the last part that was given, as a path of its own: what is left, below the root.
     pub fn rest(&self) -> &'a [u8]
         ensures text_behind_the_part { result.now ≡ rest_text (subject self.now) self.now.at }
@@ -91,5 +79,28 @@ impl<'a> Components<'a> {
         } else {
             text
         }
+    }
+}
+
+impl Iterator for Components<'_> {
+    type Item = Place;
+
+    ghost next_gives = { YieldsFirst places_left };
+
+    ghost remaining = { item_count places_left };
+
+    /// The place of the next part; none behind the last.
+    fn next(&mut self) -> Option<Place>
+        ensures steps { YieldsFirst places_left self.old result self.new }
+        ensures goes { MakesProgress (λ _. ⊤) (item_count places_left) self.old result self.new }
+        ensures place_of_the_next_part { result ≡ first_place (left self.old) }
+        ensures part_stands_there { places_to_text result (subject self.old) ≡ first_text (left self.old) }
+        ensures others_are_left { left self.new ≡ but_first (left self.old) }
+        ensures same_text { subject self.new ≡ subject self.old }
+        ensures scan_has_begun { OnSome result (begun self.new ≡ true) }
+    {
+        let place = next_part(self.text, self.at)?;
+        self.at = place.start + place.len;
+        Some(place)
     }
 }

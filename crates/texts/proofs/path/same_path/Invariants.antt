@@ -5,8 +5,8 @@ use Rattle.texts.proofs.path.same_path.Given as goal
 
 abbrev pub invariant-loop-part : goal.invariant-loop-part
 invariant-loop-part l =
-    (subject l.left ≡ l.a) × (subject l.right ≡ l.b)
-    × (same_parts (texts_of (left l.left)) (texts_of (left l.right)) ≡ same_parts (parts l.a) (parts l.b))
+    (subject l.part-iterator ≡ l.a) × (subject l.right ≡ l.b)
+    × (same_parts (texts_of (left l.part-iterator)) (texts_of (left l.right)) ≡ same_parts (parts l.a) (parts l.b))
 
 abbrev pub decreases-loop-part : goal.decreases-loop-part
-decreases-loop-part l = length (left l.left)
+decreases-loop-part l = length (left l.part-iterator)
