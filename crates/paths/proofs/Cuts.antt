@@ -1,5 +1,5 @@
 -- Where a text is cut, by the places of its parts. Assumes nothing.
-use Rattle.std.proofs.Common.{◌≡◌, ℕ, suc, ◌+◌, ◌-◌, ◌<◌, ◌≤◌, eqb, List, [], ◌∷◌, length, get_or, take, Some, None, sym, refl, ap, ◌∙◌, ⊎_elim, arith}
+use Rattle.std.proofs.Common.{◌≡◌, ℕ, suc, ◌+◌, ◌-◌, ◌<◌, ◌≤◌, List, [], ◌∷◌, length, get_or, take, Some, None, sym, refl, ap, ◌∙◌, ⊎_elim, arith}
 use Rattle.std.specs.List.{AllByRecursion}
 use Rattle.std.proofs.ByRecursion.{All-get_or}
 use Rattle.std.proofs.lemmas.List.{get_or-map, get_or-take, length-map, length-take}
@@ -8,7 +8,7 @@ use Rattle.stack.specs.Items.{item_at}
 use Rattle.stack.proofs.Laws.{item_at_beyond, item_at_is}
 use Rattle.paths.specs.declared.path_util.Component.{Component}
 use Rattle.texts.specs.declared.place.Place.{Place}
-use Rattle.texts.specs.Texts.{Text, SLASH, begins, ends}
+use Rattle.texts.specs.Texts.{Text, SLASH, begins}
 use Rattle.texts.specs.Parts.{Mark, pieces, solid, placed, inner, headed, marks, place_of, places}
 use Rattle.paths.specs.Joins.{component, last_but_one, cut, cut_length, grown, grown_by, root_length}
 use Rattle.texts.proofs.PartLoops.{some≢none}

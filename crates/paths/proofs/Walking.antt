@@ -1,12 +1,11 @@
--- One part after another joined to a text in a buffer of 255 bytes. Assumes nothing.
-use Rattle.std.proofs.Common.{◌≡◌, ℕ, ◌<◌, ◌≤◌, max, Bool, cond, leb, List, [], ◌∷◌, length, take, Some, None, sym, ap, ◌∙◌, arith}
+-- One part after another joined to a text of at most 255 bytes. Assumes nothing.
+use Rattle.std.proofs.Common.{◌≡◌, ℕ, ◌<◌, ◌≤◌, max, Bool, cond, leb, List, [], ◌∷◌, length, Some, None, sym, ap, ◌∙◌, arith}
 use Rattle.std.proofs.lemmas.Bool.{cond-false, cond-true, le-leb, lt-leb}
 use Rattle.std.proofs.lemmas.Bool.Decides.{nat_tests}
-use Rattle.texts.specs.Texts.{Text, length_in, buffer_with}
+use Rattle.texts.specs.Texts.{Text}
 use Rattle.texts.specs.Parts.{Mark, texts_of}
 use Rattle.texts.specs.Walks.{first_text, but_first}
 use Rattle.paths.specs.Joins.{grown, walked, peak, walked_within}
-use Rattle.texts.proofs.Buffers.{went_in, went_out}
 use Rattle.texts.proofs.PartLoops.{some≢none}
 
 pub peak_low : (a : Text) (ps : List Text) → length a ≤ peak a ps
@@ -26,6 +25,9 @@ module _ (a p : Text) (ps : List Text) (short : length a ≤ 255) where
   unfolding walked peak
   step_fails h = cond-false _ _ _ (lt-leb (max (length a) (peak (grown a p) ps)) 255 (omega (arith, peak_low (grown a p) ps)))
 
+pub walk_too_long : (a : Text) (ps : List Text) → 255 < length a → walked_within a ps ≡ None
+walk_too_long a ps h = cond-false _ _ _ (lt-leb (peak a ps) 255 (omega (arith, peak_low a ps)))
+
 pub walk_done : (a : Text) → length a ≤ 255 → walked_within a [] ≡ Some a
 unfolding walked peak
 walk_done a h = cond-true _ _ _ (le-leb _ 255 h)
@@ -35,18 +37,9 @@ marks_step : (ms : List Mark) (p : Text) → Some p ≡ first_text ms → texts_
 marks_step [] p e = absurd (some≢none e)
 marks_step (m ∷ ms) p e = let same : m.0 ≡ p = cc in ap (λ (q : Text). q ∷ texts_of ms) same
 
-module _ (text : List ℕ) (len : ℕ) (ms : List Mark) (p : Text) (short : len ≤ 255) (size : length text ≡ 255) (front : length (take len text) ≤ 255) (first : Some p ≡ first_text ms) where
-  pub walk_on : (text₁ : List ℕ) (n : ℕ) → Some n ≡ length_in (Some (grown (take len text) p)) (length text) → text₁ ≡ buffer_with (Some (grown (take len text) p)) text
-      → (n ≤ 255) × (walked_within (take n text₁) (texts_of (but_first ms)) ≡ walked_within (take len text) (texts_of ms))
-  walk_on text₁ n e w =
-      let in_it = went_in (grown (take len text) p) text text₁ n e w in (
-        omega arith,
-        ap (λ (a : Text). walked_within a (texts_of (but_first ms))) in_it.0
-            ∙ sym (step_fits (take len text) p (texts_of (but_first ms)) front (omega arith))
-            ∙ ap (walked_within (take len text)) (sym (marks_step ms p first)),
-      )
+module _ (a : Text) (ms : List Mark) (p : Text) (short : length a ≤ 255) (first : Some p ≡ first_text ms) where
+  pub walk_on : length (grown a p) ≤ 255 → walked_within (grown a p) (texts_of (but_first ms)) ≡ walked_within a (texts_of ms)
+  walk_on fits = sym (step_fits a p (texts_of (but_first ms)) short fits) ∙ ap (walked_within a) (sym (marks_step ms p first))
 
-  pub walk_stops : None ≡ length_in (Some (grown (take len text) p)) (length text) → None ≡ walked_within (take len text) (texts_of ms)
-  walk_stops e =
-      sym (ap (walked_within (take len text)) (marks_step ms p first)
-      ∙ step_fails (take len text) p (texts_of (but_first ms)) front (omega (arith, went_out (grown (take len text) p) (length text) e)))
+  pub walk_stops : 255 < length (grown a p) → None ≡ walked_within a (texts_of ms)
+  walk_stops long = sym (ap (walked_within a) (marks_step ms p first) ∙ step_fails a p (texts_of (but_first ms)) short long)

@@ -3,4 +3,4 @@
 
 mod path_util;
 
-pub use path_util::{MAX_PARTS, normalize, normalize_with};
+pub use path_util::{MAX_PARTS, joined, normalize, normalize_with, normalized};

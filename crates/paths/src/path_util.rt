@@ -1,14 +1,17 @@
 // Joining one text to another, and normalizing.
-ghost use Rattle.std.specs.Prelude.{◌≡◌, ◌+◌, ◌≤◌, true, false, [], ◌++◌, length, take, is_some, IfSome, Some};
+ghost use Rattle.std.specs.Prelude.{◌≡◌, ◌<◌, ◌≤◌, ◌++◌, length, MatchResult};
+ghost use Rattle.std.specs.Option.{option_map};
+ghost use Rattle.std.specs.Result.{result_ok};
 ghost use Rattle.stack.specs.Items.{items};
-ghost use Rattle.texts.specs.Texts.{begins, ends, fronted, length_in, buffer_with, text_in};
-ghost use Rattle.texts.specs.Parts.{clean, marks, parts, places, texts_of};
+ghost use Rattle.texts.specs.Held.{bytes_of};
+ghost use Rattle.texts.specs.Texts.{SLASH, begins, length_in, buffer_with};
+ghost use Rattle.texts.specs.Parts.{marks, places, texts_of};
 ghost use Rattle.paths.specs.Laws.{CleanStaysClean, DirectoryStaysInFront, ShortTextsJoin};
 ghost use Rattle.texts.specs.Walks.{left, subject};
-ghost use Rattle.paths.specs.Joins.{component, cut_length, grown, joined, normalize as normalize_of, normalized, relative, root_length, separator, slashed, walked_within};
+ghost use Rattle.paths.specs.Joins.{component, cut_length, grown, joined as joined_of, normalize as normalize_of, normalized as normalized_of, relative, root_length, separator, slashed, walked_within};
 
-use stack::Stack;
-use texts::{Components, MAX_LEN, Place, copy_text, push_parts, same_bytes};
+use stack::{Full, Stack};
+use texts::{Components, MAX_LEN, Place, Text, copy_text, ends_in, push_parts, same_bytes};
 
 /// The most parts that a text of 255 bytes can have.
 pub const MAX_PARTS: usize = 128;
@@ -70,134 +73,91 @@ fn parent_len(text: &[u8]) -> usize
     kept_len(text, &mut parts)
 }
 
-// Writes `more` behind the first `len` bytes of `text`, and says how many they are then.
-fn append(text: &mut [u8], len: usize, more: &[u8]) -> usize
-    requires { len + length more.now ≤ length text.old }
-    ensures length_with_more { result ≡ len + length more.now }
-    ensures more_behind_the_text { text.new ≡ fronted (take len text.old ++ more.now) text.old }
-{
-    let end = len + more.len();
-    text[len..end].copy_from_slice(more);
-    end
-}
-
 fn begins_with_slash(text: &[u8]) -> bool
-    ensures slash_in_front { result ≡ begins 47 text.now }
+    ensures slash_in_front { result ≡ begins SLASH text.now }
 {
-    match text {
-        [b'/', ..] => true,
-        _ => false,
-    }
-}
-
-fn ends_in_slash(text: &[u8]) -> bool
-    ensures slash_at_the_end { result ≡ ends 47 text.now }
-{
-    match text {
-        [.., b'/'] => true,
-        _ => false,
-    }
+    matches!(text, [b'/', ..])
 }
 
 // What stands between `text` and a name behind it.
 fn separator_for(text: &[u8]) -> &'static [u8]
     ensures slash_where_one_is_wanted { result.now ≡ separator text.now }
 {
-    if text.is_empty() || ends_in_slash(text) {
+    if text.is_empty() || ends_in(text, b'/') {
         b""
     } else {
         b"/"
     }
 }
 
-// Adds `name` to the text in the first `len` bytes of `text`, if there is room.
-fn add_name(text: &mut [u8], len: usize, name: &[u8]) -> Option<usize>
-    requires { len ≤ length text.old }
-    ensures length_if_it_fits { result ≡ length_in (Some (slashed (take len text.old) ++ name.now)) (length text.old) }
-    ensures name_behind_the_text_if_it_fits { text.new ≡ buffer_with (Some (slashed (take len text.old) ++ name.now)) text.old }
+// Adds `name` to `text`, if there is room.
+fn push_name(text: &mut Text<MAX_LEN>, name: &[u8]) -> Result<(), Full>
+    ensures added_or_too_long { MatchResult result (λ _. bytes_of text.new ≡ slashed (bytes_of text.old) ++ name.now) (λ _. 255 < length (slashed (bytes_of text.old) ++ name.now)) }
 {
-    let slash = separator_for(&text[0..len]);
-    let room = text.len() - len;
-    if room < slash.len() || room - slash.len() < name.len() {
-        return None;
-    }
-    let start = append(text, len, slash);
-    Some(append(text, start, name))
+    text.push_text(separator_for(text.as_bytes()))?;
+    text.push_text(name)
 }
 
-// Joins one part to the text in the first `len` bytes of `text`, if there is room.
-fn push_component(text: &mut [u8], len: usize, part: &[u8]) -> Option<usize>
-    requires { (len ≤ length text.old) × (length text.old ≡ 255) }
-    ensures length_if_it_fits { result ≡ length_in (Some (grown (take len text.old) part.now)) (length text.old) }
-    ensures part_joined_if_it_fits { text.new ≡ buffer_with (Some (grown (take len text.old) part.now)) text.old }
+// Joins one part to `text`, if there is room.
+fn push_component(text: &mut Text<MAX_LEN>, part: &[u8]) -> Result<(), Full>
+    ensures joined_or_too_long { MatchResult result (λ _. bytes_of text.new ≡ grown (bytes_of text.old) part.now) (λ _. 255 < length (grown (bytes_of text.old) part.now)) }
 {
     match Component::of(part) {
-        Component::CurDir => Some(len),
-        Component::ParentDir => Some(parent_len(&text[0..len])),
-        Component::Normal => add_name(text, len, part),
+        Component::CurDir => Ok(()),
+        Component::ParentDir => {
+            text.truncate(parent_len(text.as_bytes()));
+            Ok(())
+        }
+        Component::Normal => push_name(text, part),
     }
 }
 
-// Joins the parts of `source` that are left to the text in the first `len` bytes of `text`; none where a text on the way is too long.
-fn push_components(
-    text: &mut [u8],
-    len: usize,
-    source: &[u8],
-    rest: &mut Components,
-) -> Option<usize>
-    requires { (len ≤ length text.old) × (length text.old ≡ 255) × (subject rest.old ≡ source.now) }
-    ensures parts_joined_one_by_one { text_in result text.new ≡ walked_within (take len text.old) (texts_of (left rest.old)) }
-    ensures at_most_255_bytes { IfSome result (λ n. n ≤ 255) }
+// The parts of `source` that are left, joined to `start` one by one; none where a text on the way is too long.
+fn walked_from(start: &[u8], source: &[u8], rest: Components) -> Result<Text<MAX_LEN>, Full>
+    requires of_the_source { subject rest ≡ source.now }
+    ensures parts_joined_one_by_one { option_map bytes_of (result_ok result) ≡ walked_within start.now (texts_of (left rest.entry)) }
 {
-    let mut len = len;
-    while let Some(place) = rest.next() {
-        len = push_component(text, len, place.of(source))?;
+    let Some(mut text) = Text::new(start) else {
+        return Err(Full);
+    };
+    for place in rest {
+        push_component(&mut text, place.of(source))?;
     }
-    Some(len)
+    Ok(text)
 }
 
 // Whether a text is added to what it is joined to, and does not take its place.
 fn is_relative(text: &[u8]) -> bool
     ensures neither_empty_nor_rooted { result ≡ relative text.now }
 {
-    match text {
-        [] | [b'/', ..] => false,
-        _ => true,
-    }
+    !text.is_empty() && !begins_with_slash(text)
 }
 
-// `more` joined to `base`, in `text`.
-fn join_into(base: &[u8], more: &[u8], text: &mut [u8]) -> Option<usize>
-    requires { length text.old ≡ 255 }
-    ensures joined_text_in_front { text_in result text.new ≡ joined base.now more.now }
-    ensures at_most_255_bytes { IfSome result (λ n. n ≤ 255) }
+/// `more` joined to `base`. None where a text on the way has more than 255 bytes.
+pub fn joined(base: &[u8], more: &[u8]) -> Option<Text<MAX_LEN>>
+    ensures joined_text { option_map bytes_of result ≡ joined_of base.now more.now }
 {
     if !is_relative(more) {
-        return copy_text(more, text);
+        return Text::new(more);
     }
-    let len = copy_text(base, text)?;
-    let mut parts = Components::new(more);
-    push_components(text, len, more, &mut parts)
+    walked_from(base, more, Components::new(more)).ok()
 }
 
 /// Joins `more` to `base`, at the front of `out`. None where a text on the way has more than 255 bytes or the joined text does not fit `out`; then `out` stays as it was.
 pub fn normalize_with(base: &[u8], more: &[u8], out: &mut [u8]) -> Option<usize>
-    ensures length_of_the_joined_text { result ≡ length_in (joined base.now more.now) (length out.old) }
-    ensures joined_text_in_front { out.new ≡ buffer_with (joined base.now more.now) out.old }
+    ensures length_of_the_joined_text { result ≡ length_in (joined_of base.now more.now) (length out.old) }
+    ensures joined_text_in_front { out.new ≡ buffer_with (joined_of base.now more.now) out.old }
     ensures clean_stays_clean { CleanStaysClean base.now more.now }
     ensures directory_stays_in_front { DirectoryStaysInFront base.now more.now }
     ensures short_texts_always_join { ShortTextsJoin base.now more.now }
 {
-    let mut text = [0; MAX_LEN];
-    let len = join_into(base, more, &mut text)?;
-    copy_text(&text[0..len], out)
+    let text = joined(base, more)?;
+    copy_text(text.as_bytes(), out)
 }
 
-// `text` normalized, in `work`.
-fn normalize_into(text: &[u8], work: &mut [u8]) -> Option<usize>
-    requires { length work.old ≡ 255 }
-    ensures normal_text_in_front { text_in result work.new ≡ normalized text.now }
-    ensures at_most_255_bytes { IfSome result (λ n. n ≤ 255) }
+/// `text` normalized. None where it has more than 255 bytes.
+pub fn normalized(text: &[u8]) -> Option<Text<MAX_LEN>>
+    ensures normal_text { option_map bytes_of result ≡ normalized_of text.now }
 {
     if text.len() > MAX_LEN {
         return None;
@@ -205,21 +165,20 @@ fn normalize_into(text: &[u8], work: &mut [u8]) -> Option<usize>
     let mut parts = Components::new(text);
     if begins_with_slash(text) {
         let _ = parts.next();
-        work[0] = b'/';
-        push_components(work, 1, text, &mut parts)
+        walked_from(b"/", text, parts).ok()
     } else {
-        push_components(work, 0, text, &mut parts)
+        walked_from(b"", text, parts).ok()
     }
 }
 
 /// `text` normalized, at the front of `out`. None where `text` has more than 255 bytes or does not fit `out`; then `out` stays as it was.
+#[tactic(auto, using(crate::proofs::JoinLaws::normalize_short, crate::proofs::JoinLaws::normalize_twice))]
 pub fn normalize(text: &[u8], out: &mut [u8]) -> Option<usize>
-    ensures length_of_the_normal_text { result ≡ length_in (normalized text.now) (length out.old) }
-    ensures normal_text_in_front { out.new ≡ buffer_with (normalized text.now) out.old }
+    ensures length_of_the_normal_text { result ≡ length_in (normalized_of text.now) (length out.old) }
+    ensures normal_text_in_front { out.new ≡ buffer_with (normalized_of text.now) out.old }
     ensures twice_is_once { normalize_of (normalize_of text.now) ≡ normalize_of text.now }
     ensures never_longer { length (normalize_of text.now) ≤ length text.now }
 {
-    let mut work = [0; MAX_LEN];
-    let len = normalize_into(text, &mut work)?;
-    copy_text(&work[0..len], out)
+    let normal = normalized(text)?;
+    copy_text(normal.as_bytes(), out)
 }

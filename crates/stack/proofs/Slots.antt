@@ -1,7 +1,10 @@
 -- The first n slots of an array, each by what it means. Assumes nothing.
-use Rattle.std.proofs.Common.{◌≡◌, ℕ, suc, ◌+◌, ◌-◌, ◌<◌, ◌≤◌, List, [], ◌∷◌, ◌++◌, map, length, get_or, take, drop, set, sym, ap, ◌∙◌, add-one, append_assoc, arith}
+use Rattle.std.proofs.Common.{◌≡◌, ℕ, suc, ◌+◌, ◌-◌, ◌<◌, ◌≤◌, List, [], ◌∷◌, ◌++◌, map, length, get_or, take, drop, set, sym, ap, ◌∙◌, add-one, append_assoc, arith, length-take}
 use lib.Seq.{take-set-lt}
 use Rattle.std.proofs.lemmas.List.{drop-drop, drop-map, drop-take, drop_more, length-append, length-drop, take-take, take_at, get_or-map, get_or-take, length-map, length-take-le, map_push, map-set, take_more_set}
+
+use Rattle.stack.specs.declared.array_vec.ArrayVec.{ArrayVec}
+use Rattle.stack.specs.Held.{held}
 
 module _ {X Y : Type 0} (f : X → Y) (xs : List X) (n : ℕ) where
   -- there are n of them
@@ -48,3 +51,7 @@ taken_out xs rest ys n i low high is =
     let long : length (take i xs ++ back) ≡ n - 1 =
     omega (arith, length-append (take i xs) back, length-take-le i xs (omega arith), length-drop (suc i) (take n xs), length-take-le n xs high) in
     ap (take (n - 1)) whole ∙ take_at (take i xs ++ back) (take 1 mid ++ rest) (n - 1) long ∙ ap (λ (zs : List _). zs ++ back) (sym (take-take i n xs (omega arith)))
+
+-- a list has at most as many items as it has slots
+pub held_within : {T : Type 0} {N : ℕ} (v : ArrayVec T N) → length (held v) ≤ N
+held_within v = omega (arith, length-take v.len v.slots, v.within)

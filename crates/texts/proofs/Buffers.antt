@@ -1,8 +1,12 @@
 -- Texts at the front of a buffer. Assumes nothing.
-use Rattle.std.proofs.Common.{◌≡◌, ℕ, ◌+◌, ◌-◌, ◌<◌, ◌≤◌, Bool, true, false, cond, leb, List, ◌++◌, length, take, drop, IfSome, Some, None, Option, sym, refl, ap, ◌∙◌, append_assoc, arith}
+use Rattle.std.proofs.Common.{◌≡◌, ℕ, ◌+◌, ◌-◌, ◌<◌, ◌≤◌, Bool, true, false, cond, leb, List, ◌++◌, length, take, drop, IfSome, MatchOption, Some, None, Option, sym, refl, ap, ◌∙◌, append_assoc, arith}
 use borrow.Rule.Slice.PartMut.{put_mid}
 use Rattle.std.proofs.lemmas.List.{drop_at, drop-drop, length-append, length-take-le, take-append-drop, take_at, take-take}
 use Rattle.std.proofs.lemmas.Bool.{cond-false, cond-true, le-leb, leb-false, leb-true, lt-leb}
+use Rattle.std.specs.Option.{option_map}
+use Rattle.stack.proofs.Slots.{held_within}
+use Rattle.texts.specs.Held.{bytes_of}
+use Rattle.texts.specs.declared.text.Text.{Text as Held}
 use Rattle.texts.specs.Texts.{Text, appended, fronted, length_in, buffer_with, text_in}
 use Rattle.texts.proofs.PartLoops.{some≢none}
 
@@ -108,3 +112,12 @@ module _ (n : ℕ) (out more : List ℕ) where
       let is = appended_is h in
       let g = stays_out (take n out ++ more) out (omega (arith, length-append (take n out) more, length-take-le n out h)) in
       (g.0 ∙ ap (λ (o : Option Text). length_in o (length out)) (sym is), g.1 ∙ ap (λ (o : Option Text). buffer_with o out) (sym is))
+
+-- a text that is held by value has no more bytes than it has room for
+pub text_within : {N : ℕ} (t : Held N) → length (bytes_of t) ≤ N
+text_within t = held_within t.bytes
+
+-- what making such a text answers: the text, or none where it is too long
+pub new_is : {N : ℕ} (o : Option (Held N)) (s : Text) → MatchOption o (N < length s) (λ t. bytes_of t ≡ s) → option_map bytes_of o ≡ cond (leb (length s) N) (Some s) None
+new_is {N} None s h = sym (cond-false _ _ _ (lt-leb (length s) N h))
+new_is {N} (Some t) s h = ap Some h ∙ sym (cond-true _ _ _ (le-leb (length s) N (omega (arith, ap length h, text_within t))))

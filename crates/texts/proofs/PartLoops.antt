@@ -8,7 +8,10 @@ use Rattle.std.proofs.lemmas.Bool.{and_left, not-false, not-true, ne_eqb}
 use Rattle.texts.specs.declared.place.Place.{Place}
 use Rattle.texts.specs.Texts.{Text, SLASH, empty, until}
 use Rattle.texts.specs.Parts.{Mark, before, pieces, clean_pieces, named, every, texts_of, place_of, same_parts}
-use Rattle.texts.specs.Walks.{first_place, first_text, but_first}
+use Rattle.std.proofs.lemmas.Iterator.{YieldsList}
+use Rattle.std.proofs.lemmas.Iterator.Consumers.{YieldsList-from_shown}
+use Rattle.texts.specs.declared.components.Components.{Components}
+use Rattle.texts.specs.Walks.{PartGiven, first_place, first_text, but_first, left, places_left}
 use Rattle.texts.proofs.Scans.{others, pieces_slash, pieces_split}
 
 pub some≢none : {X : Type 0} {x : X} → Some x ≡ None → ⊥
@@ -103,3 +106,10 @@ module _ (had held ps all : List Place) (inv : held ++ ps ≡ had ++ all) (kept 
       ∙ append_assoc held (p ∷ []) rest
       ∙ ap (λ (qs : List Place). held ++ qs) (sym e)
       ∙ inv
+
+-- a scan gives the places of the parts that are left
+pub parts_given : (s : Components) → YieldsList PartGiven (λ p. p) s (places_left s)
+parts_given s = YieldsList-from_shown PartGiven (λ p. p) places_left
+    (λ t u g. ap (λ (ms : List Mark). length (map place_of ms)) (none_left (left t) g.place_of_the_next_part))
+    (λ t p u g. one_less (left t) p g.place_of_the_next_part ∙ ap (λ (ms : List Mark). p ∷ map place_of ms) (sym g.others_are_left))
+    s

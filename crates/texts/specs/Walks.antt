@@ -1,5 +1,5 @@
 -- What a scan over a text's parts has still to give. Assumes nothing.
-use Rattle.std.specs.Prelude.{Bool, List, [], ◌∷◌, map, Some, None, Option, nat_lt}
+use Rattle.std.specs.Prelude.{◌≡◌, true, OnSome, Bool, List, [], ◌∷◌, map, Some, None, Option, nat_lt}
 use Rattle.texts.specs.declared.components.Components.{Components}
 use Rattle.texts.specs.declared.place.Place.{Place}
 use Rattle.texts.specs.Texts.{Text}
@@ -41,3 +41,11 @@ places_to_text (Some p) t = Some (text_at t p)
 -- a part was given
 abbrev pub begun : Components → Bool
 begun c = nat_lt 0 c.at
+
+-- a scan gave a part, or none behind the last, and went on
+pub record PartGiven (s : Components) (r : Option Place) (t : Components) : Type 0 where
+  pub place_of_the_next_part : r ≡ first_place (left s)
+  pub part_stands_there : places_to_text r (subject s) ≡ first_text (left s)
+  pub others_are_left : left t ≡ but_first (left s)
+  pub same_text : subject t ≡ subject s
+  pub scan_has_begun : OnSome r (begun t ≡ true)

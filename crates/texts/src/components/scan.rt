@@ -1,9 +1,9 @@
 // How a scan of a text finds its parts.
-ghost use Rattle.std.specs.Prelude.{◌≡◌, ◌<◌, ◌≤◌, true, ⊤, [], ◌∷◌, length, MatchOption, OnSome};
+ghost use Rattle.std.specs.Prelude.{◌≡◌, ◌<◌, ◌≤◌, true, [], ◌∷◌, length, MatchOption};
 ghost use Rattle.texts.specs.Parts.{marks, parts, root, texts_of};
 ghost use Rattle.texts.specs.Scans.{marks_left, Next, rest_text};
-ghost use Rattle.std.specs.Iterator.{MakesProgress, YieldsFirst, item_count};
-ghost use Rattle.texts.specs.Walks.{begun, left, subject, first_place, first_text, places_left, places_to_text, but_first};
+ghost use Rattle.std.specs.Iterator.{item_count};
+ghost use Rattle.texts.specs.Walks.{PartGiven, begun, left, subject, places_left};
 
 use crate::bytes::position;
 use crate::components::Components;
@@ -85,20 +85,12 @@ impl<'a> Components<'a> {
 impl Iterator for Components<'_> {
     type Item = Place;
 
-    ghost next_gives = { YieldsFirst places_left };
+    ghost next_gives = { PartGiven };
 
     ghost remaining = { item_count places_left };
 
     /// The place of the next part; none behind the last.
-    fn next(&mut self) -> Option<Place>
-        ensures steps { YieldsFirst places_left self.old result self.new }
-        ensures goes { MakesProgress (λ _. ⊤) (item_count places_left) self.old result self.new }
-        ensures place_of_the_next_part { result ≡ first_place (left self.old) }
-        ensures part_stands_there { places_to_text result (subject self.old) ≡ first_text (left self.old) }
-        ensures others_are_left { left self.new ≡ but_first (left self.old) }
-        ensures same_text { subject self.new ≡ subject self.old }
-        ensures scan_has_begun { OnSome result (begun self.new ≡ true) }
-    {
+    fn next(&mut self) -> Option<Place> {
         let place = next_part(self.text, self.at)?;
         self.at = place.start + place.len;
         Some(place)

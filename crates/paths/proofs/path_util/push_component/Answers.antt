@@ -1,41 +1,24 @@
-use Rattle.std.proofs.Common.{◌≡◌, ℕ, ◌-◌, List, length, take, Some, sym, ap, ◌∙◌, arith}
-use Rattle.std.proofs.lemmas.List.{take-take}
+use Rattle.std.proofs.Common.{◌≡◌, ℕ, ◌<◌, length, take, MatchResult, sym, ap, ◌∙◌, subst}
 use Rattle.paths.specs.declared.path_util.Component.TheVariants.{CurDir, ParentDir, Normal}
-use Rattle.texts.specs.Texts.{Text, length_in, buffer_with}
+use Rattle.texts.specs.Held.{bytes_of}
+use Rattle.texts.specs.Texts.{Text}
 use Rattle.texts.specs.Parts.{marks}
-use Rattle.paths.specs.Joins.{component, cut_length, grown}
-use Rattle.texts.proofs.Buffers.{is_there}
+use Rattle.paths.specs.Joins.{cut_length}
 use Rattle.paths.proofs.Cuts.{cut_is, grown_is}
 use Rattle.paths.proofs.path_util.push_component.Goals as goal
 
-up : (text part : List ℕ) (len n : ℕ) → ParentDir ≡ component part → n ≡ cut_length (take (len - 0) text) (marks (take (len - 0) text)) → grown (take len text) part ≡ take n (take len text)
-up text part len n kind e =
-    let from : len - 0 ≡ len = omega arith in
-    let front = take len text in
-    grown_is ParentDir front part kind ∙ sym (cut_is front) ∙ ap (λ k. take k front) (sym (e ∙ ap (λ k. cut_length (take k text) (marks (take k text))) from))
-
 pub returns-in-CurDir : goal.returns-in-CurDir
-returns-in-CurDir c =
-    let text = c.args.text.now in
-    let len = c.args.len in
-    let same = grown_is CurDir (take len text) c.args.part.now c.in-CurDir.ensures.component_by_its_dots in
-    let s = is_there text _ len len (omega arith) c.requires.0 (same ∙ sym (take-take len len text (omega arith))) in
-    record { length_if_it_fits = s.0; part_joined_if_it_fits = s.1 }
+returns-in-CurDir c = record { joined_or_too_long = sym (grown_is CurDir (bytes_of c.args.text.now) c.args.part.now c.in-CurDir.ensures.component_by_its_dots) }
 
 pub returns-in-ParentDir : goal.returns-in-ParentDir
 returns-in-ParentDir c =
-    let h = c.parent_len.ensures in
-    let text = c.args.text.now in
-    let len = c.args.len in
-    let s = is_there text _ c.parent_len.result len (omega arith) c.requires.0 (up text c.args.part.now len c.parent_len.result c.in-ParentDir.ensures.component_by_its_dots h.length_after_the_cut) in
-    record { length_if_it_fits = s.0; part_joined_if_it_fits = s.1 }
+    let a = bytes_of c.args.text.now in
+    let stays = c.parent_len.ensures.length_after_the_cut ∙ ap (λ (t : Text). cut_length t (marks t)) c.as_bytes.ensures.bytes_of_the_text in
+    record { joined_or_too_long = c.truncate.ensures.bytes_after ∙ ap (λ (n : ℕ). take n a) stays ∙ cut_is a ∙ sym (grown_is ParentDir a c.args.part.now c.in-ParentDir.ensures.component_by_its_dots) }
 
 pub returns-in-Normal : goal.returns-in-Normal
-returns-in-Normal c =
-    let h = c.add_name.ensures in
-    let text = c.args.text.now in
-    let same = grown_is Normal (take c.args.len text) c.args.part.now c.in-Normal.ensures.component_by_its_dots in
-    record {
-      length_if_it_fits = h.length_if_it_fits ∙ ap (λ (t : Text). length_in (Some t) (length text)) (sym same);
-      part_joined_if_it_fits = h.name_behind_the_text_if_it_fits ∙ ap (λ (t : Text). buffer_with (Some t) text) (sym same);
-    }
+returns-in-Normal c = record {
+  joined_or_too_long =
+      subst (λ (t : Text). MatchResult c.push_name.result (λ _. bytes_of c.push_name.new.text ≡ t) (λ _. 255 < length t))
+      (sym (grown_is Normal (bytes_of c.args.text.now) c.args.part.now c.in-Normal.ensures.component_by_its_dots)) c.push_name.ensures.added_or_too_long;
+}

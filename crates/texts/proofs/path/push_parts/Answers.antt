@@ -17,7 +17,7 @@ returns-then-is_err-clause-room_for_all c =
     let refused : is_ok c.push.result ≡ false = c.if-is_err.ensures.negation in
     let full : capacity c.loop-place.found ≤ length held = ltb-false _ _ (sym c.push.ensures.refused_only_when_full ∙ refused) in
     let count = push_counts was held (map place_of ms) (places c.args.text.now) c.loop-place.invariant.0 c.loop-place.invariant.1 in
-    let one = ap length (one_less ms c.in-Some.place c.in-Some.ensures.place_of_the_next_part) in
+    let one = ap length (one_less ms c.in-Some.place c.in-Some.ensures.steps.place_of_the_next_part) in
     sym (lt-leb _ _ (omega (arith, full, count, one, c.loop-place.invariant.2, length-map (marks c.args.text.now) place_of, length-map (marks c.args.text.now) (λ (m : Mark). m.0))))
 
 pub returns-then-is_err-clause-places_on_top : goal.returns-then-is_err-clause-places_on_top
@@ -36,6 +36,6 @@ returns-clause-room_for_all c =
     let was = items c.args.found.now in
     let held = items c.loop-place.found in
     let ms = left c.loop-place.place-iterator in
-    let none = ap (map place_of) (none_left ms c.in-None.ensures.place_of_the_next_part) in
+    let none = ap (map place_of) (none_left ms c.in-None.ensures.steps.place_of_the_next_part) in
     let count = push_counts was held (map place_of ms) (places c.args.text.now) c.loop-place.invariant.0 c.loop-place.invariant.1 in
     sym (le-leb _ _ (omega (arith, count, ap length none, c.loop-place.invariant.2, length_items c.loop-place.found, c.loop-place.found.sound, length-map (marks c.args.text.now) place_of, length-map (marks c.args.text.now) (λ (m : Mark). m.0))))
