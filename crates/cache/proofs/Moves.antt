@@ -1,175 +1,99 @@
--- What a search among the entries finds, and what moving one to the front does to the list.
-use Rattle.std.proofs.Common.{◌≡◌, ℕ, suc, ◌+◌, ◌-◌, ◌<◌, ◌≤◌, Bool, true, false, cond, ◌⊎◌, List, [], ◌∷◌, ◌++◌, map, length, get_or, take, drop, set, Some, None, Option, sym, refl, ap, ◌∙◌, subst, inl, inr, ⊎_elim, append_assoc, add-one, arith, length-take}
-use Rattle.std.proofs.lemmas.List.{map-append, drop-map, take-append-drop, take-append-le, drop-append-le, length-append, take_at, take_all, take_more, take-map, drop_all, drop_more, drop-take, get_or-map, get_or-take, take-take, length-map, length-drop, length-take-le}
+-- Where a path is held, and what taking its entry to the front does to the list. Assumes nothing.
+use Rattle.std.proofs.Common.{◌≡◌, ℕ, zero, suc, ◌+◌, ◌-◌, ◌<◌, ◌≤◌, Bool, true, false, cond, ltb, List, [], ◌∷◌, ◌++◌, map, length, take, drop, Some, None, Option, MatchOption, Ok, Result, is_ok, sym, refl, ap, ◌∙◌, subst, arith}
+use Rattle.std.specs.List.{position_from, remove}
+use Rattle.std.specs.Result.{IsOk}
+use Rattle.std.proofs.lemmas.Bool.{lt-ltb}
+use Rattle.std.proofs.lemmas.List.{drop-map, length-append, length-drop, length-map, length-take, map-append, take-map, take_all}
+use Rattle.stack.specs.declared.lifo.Full.{Full}
+use Rattle.stack.specs.Items.{item_at}
 use Rattle.tree.specs.declared.answers.Kind.{Kind}
 use Rattle.cache.specs.declared.recent.Entry.{Entry}
 use Rattle.cache.specs.Held.{seen}
-use Rattle.cache.specs.Seen.{Seen, Placed, fresh, moved, recalled, remember, renewed, renewed_as, without}
-use Rattle.texts.specs.Held.{bytes_of}
-use Rattle.texts.specs.Parts.{parts, same_parts}
-use Rattle.texts.specs.Texts.{Text}
+use Rattle.cache.specs.Seen.{Placed, Seen, fresh, recalled, remember, renewed, renewed_as, without}
+use Rattle.texts.specs.Parts.{same_parts}
 use Rattle.tree.specs.Meanings.{Path}
 use Rattle.cache.proofs.Paths.{same_means_equal}
 
--- the entry at i, as the list has it
-module _ (xs : List Entry) (n i : ℕ) (d : Entry) (low : i < n) (high : n ≤ length xs) where
-  long : i < length (map seen (take n xs))
-  long = simp (length-map, length-take) (omega arith)
+-- an entry that was put in front, and the room for it
+pub put_first : (r : Result Unit Full) (u : Unit) (x : Entry) (xs ys : List Entry) → r ≡ Ok u → ys ≡ cond (is_ok r) (x ∷ xs) xs → ys ≡ x ∷ xs
+put_first r u x xs ys h after = after ∙ ap (λ (q : Result Unit Full). cond (is_ok q) (x ∷ xs) xs) h
 
-  pub entry_at : get_or (map seen (take n xs)) i (seen d) ≡ seen (get_or xs i d)
-  entry_at =
-      let l : i < length (take n xs) = simp length-take (omega arith) in
-      get_or-map seen (take n xs) i d (seen d) l ∙ ap seen (get_or-take n xs i d low)
+pub has_room : (r : Result Unit Full) (n : ℕ) → is_ok r ≡ ltb n 64 → n ≤ 63 → IsOk r
+has_room r n e h = e ∙ lt-ltb n 64 (omega arith)
 
-  pub drop_entry : drop i (map seen (take n xs)) ≡ seen (get_or xs i d) ∷ drop (i + 1) (map seen (take n xs))
-  drop_entry = drop_more (map seen (take n xs)) i (seen d) long ∙ ap (λ (e : Seen). e ∷ drop (i + 1) (map seen (take n xs))) entry_at
+-- the first entry that has the path, where the list starts at n
+module _ (p : Path) where
+  pub position_is : (n : ℕ) (xs : List Entry) → position_from (λ x. same_parts (seen x).path p) n xs ≡ position_from (λ e. same_parts e.path p) n (map seen xs)
+  position_is n [] = refl
+  position_is n (x ∷ xs) = ap (cond (same_parts (seen x).path p) (Some n)) (position_is (n + 1) xs)
 
-  pub take_entry : take (i + 1) (map seen (take n xs)) ≡ take i (map seen (take n xs)) ++ seen (get_or xs i d) ∷ []
-  take_entry = take_more (map seen (take n xs)) i (seen d) long ∙ ap (λ (e : Seen). take i (map seen (take n xs)) ++ e ∷ []) entry_at
+  abbrev Here : Seen → List Seen → Bool → ℕ → Type 0
+  Here e es v j = (j < length (e ∷ es)) × ((k : Kind) × (cond v (Some e.kind) (recalled p es) ≡ Some k) × (drop j (e ∷ es) ≡ fresh p k ∷ drop (suc j) (e ∷ es)) × (cond v es (e ∷ without p es) ≡ take j (e ∷ es) ++ drop (suc j) (e ∷ es)))
 
-  pub entry_within : i < length (map seen (take n xs))
-  entry_within = long
+  placed_from : (n : ℕ) (es : List Seen) → MatchOption (position_from (λ e. same_parts e.path p) n es) (recalled p es ≡ None) (λ i. (n ≤ i) × Placed p es (Some (i - n)))
+  placed_from n [] = refl
+  placed_from n (e ∷ es) = at (same_parts e.path p) (same_means_equal e.path p) (placed_from (n + 1) es)
+    where
+      later : (o : Option ℕ) → MatchOption o (recalled p es ≡ None) (λ i. (n + 1 ≤ i) × Placed p es (Some (i - (n + 1)))) → MatchOption o (recalled p es ≡ None) (λ i. (n ≤ i) × Here e es false (i - n))
+      later None h = h
+      later (Some i) h =
+          let low : n + 1 ≤ i = h.0 in
+          let next : suc (i - (n + 1)) ≡ i - n = omega arith in
+          let there : Here e es false (suc (i - (n + 1))) = (omega (arith, h.1.0), (h.1.1.0, h.1.1.1, h.1.1.2, ap (λ (ys : List Seen). e ∷ ys) h.1.1.3)) in
+          (omega arith, subst (Here e es false) next there)
 
--- a search that has come to i, where e stands
-module _ (p : Path) (es : List Seen) (i : ℕ) (e : Seen) (here : drop i es ≡ e ∷ drop (i + 1) es) (inv : (recalled p (drop i es) ≡ recalled p es) × (without p es ≡ take i es ++ without p (drop i es))) where
-  pub passed : take (i + 1) es ≡ take i es ++ e ∷ [] → same_parts e.path p ≡ false → (recalled p (drop (i + 1) es) ≡ recalled p es) × (without p es ≡ take (i + 1) es ++ without p (drop (i + 1) es))
-  passed more other =
-      let r : recalled p (drop i es) ≡ recalled p (drop (i + 1) es) = ap (recalled p) here ∙ ap (λ (b : Bool). cond b (Some e.kind) (recalled p (drop (i + 1) es))) other in
-      let w : without p (drop i es) ≡ e ∷ without p (drop (i + 1) es) = ap (without p) here ∙ ap (λ (b : Bool). cond b (drop (i + 1) es) (e ∷ without p (drop (i + 1) es))) other in
-      let whole : take (i + 1) es ++ without p (drop (i + 1) es) ≡ take i es ++ e ∷ without p (drop (i + 1) es) = ap (λ (zs : List Seen). zs ++ without p (drop (i + 1) es)) more ∙ append_assoc (take i es) (e ∷ []) (without p (drop (i + 1) es)) in
-      (sym r ∙ inv.0, inv.1 ∙ ap (λ (zs : List Seen). take i es ++ zs) w ∙ sym whole)
+      at : (v : Bool) → (v ≡ true → e.path ≡ p) → MatchOption (position_from (λ x. same_parts x.path p) (n + 1) es) (recalled p es ≡ None) (λ i. (n + 1 ≤ i) × Placed p es (Some (i - (n + 1)))) → MatchOption (cond v (Some n) (position_from (λ x. same_parts x.path p) (n + 1) es)) (cond v (Some e.kind) (recalled p es) ≡ None) (λ i. (n ≤ i) × Here e es v (i - n))
+      at true same h =
+          let none : 0 ≡ n - n = omega arith in
+          let it : e ≡ fresh p e.kind = ap (λ (q : Path). fresh q e.kind) (same refl) in
+          let first : Here e es true 0 = (omega arith, (e.kind, refl, ap (λ (x : Seen). x ∷ es) it, refl)) in
+          (omega arith, subst (Here e es true) none first)
+      at false same h = later (position_from (λ x. same_parts x.path p) (n + 1) es) h
 
-  pub met : i < length es → same_parts e.path p ≡ true → Placed p es (Some i)
-  met within same =
-      let r : recalled p (drop i es) ≡ Some e.kind = ap (recalled p) here ∙ ap (λ (b : Bool). cond b (Some e.kind) (recalled p (drop (i + 1) es))) same in
-      let w : without p (drop i es) ≡ drop (i + 1) es = ap (without p) here ∙ ap (λ (b : Bool). cond b (drop (i + 1) es) (e ∷ without p (drop (i + 1) es))) same in
-      let one : drop (i + 1) es ≡ drop (suc i) es = ap (λ (n : ℕ). drop n es) (add-one i) in
-      let it : e ≡ fresh p e.kind = ap (λ (q : Path). fresh q e.kind) (same_means_equal e.path p same) in
-      (within, (e.kind, sym inv.0 ∙ r, here ∙ ap (λ (x : Seen). x ∷ drop (i + 1) es) it ∙ ap (λ (zs : List Seen). fresh p e.kind ∷ zs) one, inv.1 ∙ ap (λ (zs : List Seen). take i es ++ zs) (w ∙ one)))
+  pub placed : (es : List Seen) → Placed p es (position_from (λ e. same_parts e.path p) 0 es)
+  placed es = at (position_from (λ e. same_parts e.path p) 0 es) (placed_from 0 es)
+    where
+      at : (o : Option ℕ) → MatchOption o (recalled p es ≡ None) (λ i. (0 ≤ i) × Placed p es (Some (i - 0))) → Placed p es o
+      at None h = h
+      at (Some i) h = let same : i - 0 ≡ i = omega arith in subst (λ (k : ℕ). Placed p es (Some k)) same h.1
 
--- a search that has come to i has met nothing
-abbrev pub Searched : Path → List Seen → ℕ → Type 0
-Searched p es i = (recalled p (drop i es) ≡ recalled p es) × (without p es ≡ take i es ++ without p (drop i es))
+entry_is : (xs : List Entry) (i : ℕ) (x : Entry) (e : Seen) (es : List Seen) → Some x ≡ item_at xs i → drop i (map seen xs) ≡ e ∷ es → seen x ≡ e
+entry_is [] i x e es h k = cc
+entry_is (y ∷ xs) zero x e es h k = let z : x ≡ y = cc in let w : seen y ≡ e = cc in ap seen z ∙ w
+entry_is (y ∷ xs) (suc i) x e es h k = entry_is xs i x e es h k
 
-module _ (p : Path) (xs : List Entry) (n i : ℕ) (low : i < n) (high : n ≤ length xs) (inv : Searched p (map seen (take n xs)) i) (d : Entry) (text : Text) (is : text ≡ bytes_of (get_or xs i d).path) where
-  pub entry_passed : same_parts (parts text) p ≡ false → Searched p (map seen (take n xs)) (i + 1)
-  entry_passed other =
-      passed p (map seen (take n xs)) i (seen (get_or xs i d)) (drop_entry xs n i d low high) inv (take_entry xs n i d low high)
-      (ap (λ (t : Text). same_parts (parts t) p) (sym is) ∙ other)
+-- an entry that is held is taken out
+module _ (p : Path) (xs : List Entry) (i : ℕ) (x : Entry) (at : Placed p (map seen xs) (Some i)) (is : Some x ≡ item_at xs i) where
+  same : seen x ≡ fresh p at.1.0
+  same = entry_is xs i x (fresh p at.1.0) (drop (suc i) (map seen xs)) is at.1.2
 
-  pub entry_met : same_parts (parts text) p ≡ true → Placed p (map seen (take n xs)) (Some i)
-  entry_met same =
-      met p (map seen (take n xs)) i (seen (get_or xs i d)) (drop_entry xs n i d low high) inv (entry_within xs n i d low high)
-      (ap (λ (t : Text). same_parts (parts t) p) (sym is) ∙ same)
+  pub kind_is : Some x.kind ≡ recalled p (map seen xs)
+  kind_is = ap (λ (e : Seen). Some e.kind) same ∙ sym at.1.1
 
--- a search that has come to the end
-pub searched_all : (p : Path) (es : List Seen) (i : ℕ) → length es ≤ i → Searched p es i → recalled p es ≡ None
-searched_all p es i end inv = sym inv.0 ∙ ap (recalled p) (drop_all i es end)
+  others : map seen (remove xs i) ≡ without p (map seen xs)
+  others = simp (map-append, take-map, drop-map) refl ∙ sym at.1.3
+
+  pub fewer : length xs ≤ 64 → length (remove xs i) ≤ 63
+  fewer few = let inside = at.0 in omega (arith, length-map xs seen, length-append (take i xs) (drop (suc i) xs), length-take i xs, length-drop (suc i) xs)
+
+  -- and becomes the first
+  pub renewed_is : length xs ≤ 64 → map seen (x ∷ remove xs i) ≡ renewed p (map seen xs)
+  renewed_is few =
+      let short : length (without p (map seen xs)) ≤ 63 = omega (arith, ap length others, length-map (remove xs i) seen, fewer few) in
+      (λ j. same j ∷ others j)
+      ∙ ap (λ (es : List Seen). fresh p at.1.0 ∷ es) (sym (take_all 63 (without p (map seen xs)) short))
+      ∙ ap (renewed_as p (map seen xs)) (sym at.1.1)
 
 -- a path that is not held is nowhere to be left out
-absent : (b : Bool) (k : Kind) (r : Option Kind) (e : Seen) (w es : List Seen) → cond b (Some k) r ≡ None → (r ≡ None → w ≡ es) → cond b es (e ∷ w) ≡ e ∷ es
-absent true k r e w es h f = let z : ◌≡◌ {A = ℕ} 0 1 = cc in absurd (omega arith)
-absent false k r e w es h f = ap (λ (zs : List Seen). e ∷ zs) (f h)
-
-pub without_absent : (p : Path) (es : List Seen) → recalled p es ≡ None → without p es ≡ es
+without_absent : (p : Path) (es : List Seen) → recalled p es ≡ None → without p es ≡ es
 without_absent p [] h = refl
-without_absent p (e ∷ es) h = absent (same_parts e.path p) e.kind (recalled p es) e (without p es) es h (without_absent p es)
+without_absent p (e ∷ es) h = at (same_parts e.path p) h (without_absent p es)
+  where
+    at : (v : Bool) → cond v (Some e.kind) (recalled p es) ≡ None → (recalled p es ≡ None → without p es ≡ es) → cond v es (e ∷ without p es) ≡ e ∷ es
+    at true g more = cc
+    at false g more = ap (λ (ys : List Seen). e ∷ ys) (more g)
 
-module _ {X : Type 0} where
-  onto : (ys zs : List X) (e : X) → 0 < length ys → set (take 1 ys ++ zs) 0 e ≡ e ∷ zs
-  onto [] zs e h = absurd (omega arith)
-  onto (y ∷ ys) zs e h = refl
-
-  -- the front of k = i + 1 turned by one
-  pub turned : (xs : List X) (i k : ℕ) → k ≡ i + 1 → i < length xs → (front ys : List X) → front ≡ take k xs → ys ≡ drop (length front - 1) front ++ take (length front - 1) front → ys ++ drop k xs ≡ moved xs i
-  turned xs i k is within front ys f e =
-      let len : length front - 1 ≡ i = ap (λ (zs : List X). length zs - 1) f ∙ ap (λ (n : ℕ). n - 1) (length-take-le k xs (omega arith)) ∙ omega arith in
-      let f' : front ≡ take (i + 1) xs = f ∙ ap (λ (n : ℕ). take n xs) is in
-      let last : drop i (take (i + 1) xs) ≡ take 1 (drop i xs) = drop-take i 1 xs in
-      let rest : take i (take (i + 1) xs) ≡ take i xs = take-take i (i + 1) xs (omega arith) in
-      let turn : drop i (take (i + 1) xs) ++ take i (take (i + 1) xs) ≡ take 1 (drop i xs) ++ take i xs = cc in
-      let all : ys ≡ take 1 (drop i xs) ++ take i xs = e ∙ ap (λ (n : ℕ). drop n front ++ take n front) len ∙ ap (λ (zs : List X). drop i zs ++ take i zs) f' ∙ turn in
-      ap (λ (zs : List X). zs ++ drop k xs) all ∙ append_assoc (take 1 (drop i xs)) (take i xs) (drop k xs) ∙ ap (λ (n : ℕ). take 1 (drop i xs) ++ (take i xs ++ drop n xs)) (is ∙ add-one i)
-
-  -- an element written over the one that came to the front
-  pub put_front : (xs : List X) (j : ℕ) (e : X) → j < length xs → take (suc j) (set (moved xs j) 0 e) ≡ e ∷ take j xs
-  put_front xs j e within =
-      let some : 0 < length (drop j xs) = simp length-drop (omega arith) in
-      let front : set (moved xs j) 0 e ≡ e ∷ (take j xs ++ drop (suc j) xs) = onto (drop j xs) (take j xs ++ drop (suc j) xs) e some in
-      ap (take (suc j)) front ∙ ap (λ (zs : List X). e ∷ zs) (take_at (take j xs) (drop (suc j) xs) j (length-take-le j xs (omega arith)))
-
--- the 64 latest, of which the last gives way
-latest : (xs : List Entry) (n j : ℕ) → n ≤ length xs → ((j ≡ n) × (n < 64)) ⊎ ((j ≡ 63) × (n ≡ 64)) → map seen (take j xs) ≡ take 63 (map seen (take n xs))
-latest xs n j high (inl (e, low)) =
-    ap (λ (m : ℕ). map seen (take m xs)) e ∙ sym (take_all 63 (map seen (take n xs)) (simp (length-map, length-take) (omega arith)))
-latest xs n j high (inr (e, full)) =
-    ap (λ (m : ℕ). map seen (take m xs)) e ∙ sym (take-map seen 63 (take n xs) ∙ ap (map seen) (take-take 63 n xs (omega arith)))
-
--- n entries, of which m are kept once e is written at the front: m - 1 goes to the front first
-pub remembered : (p : Path) (k : Kind) (xs zs : List Entry) (n m : ℕ) (e : Entry) → n ≤ length xs → m ≤ length xs → ((m ≡ n + 1) × (n < 64)) ⊎ ((m ≡ 64) × (n ≡ 64)) → zs ≡ moved xs (m - 1) → seen e ≡ fresh p k → recalled p (map seen (take n xs)) ≡ None → map seen (take m (set zs 0 e)) ≡ remember p k (map seen (take n xs))
-remembered p k xs zs n m e high fits way moves is none =
-    let j : ℕ = m - 1 in
-    let one : m ≡ suc j = ⊎_elim (λ h. let a = h.0 in omega arith) (λ h. let a = h.0 in omega arith) way in
-    let low : j < length xs = omega arith in
-    let ways : ((j ≡ n) × (n < 64)) ⊎ ((j ≡ 63) × (n ≡ 64)) = ⊎_elim (λ h. let a = h.0 in inl (omega arith, h.1)) (λ h. let a = h.0 in inr (omega arith, h.1)) way in
-    ap (λ (ys : List Entry). map seen (take m (set ys 0 e))) moves
-    ∙ ap (λ (l : ℕ). map seen (take l (set (moved xs j) 0 e))) one
-    ∙ ap (map seen) (put_front xs j e low)
-    ∙ ap (λ (x : Seen). x ∷ map seen (take j xs)) is
-    ∙ ap (λ (ys : List Seen). fresh p k ∷ ys) (latest xs n j high ways ∙ ap (take 63) (sym (without_absent p (map seen (take n xs)) none)))
-
--- what is moved within the first n stays there
-moved_append : {X : Type 0} (xs ys : List X) (i : ℕ) → i < length xs → moved (xs ++ ys) i ≡ moved xs i ++ ys
-moved_append xs ys i low =
-    let some : 1 ≤ length (drop i xs) = simp length-drop (omega arith) in
-    let a : take 1 (drop i (xs ++ ys)) ≡ take 1 (drop i xs) = ap (take 1) (drop-append-le i xs ys (omega arith)) ∙ take-append-le 1 (drop i xs) ys some in
-    let b : take i (xs ++ ys) ≡ take i xs = take-append-le i xs ys (omega arith) in
-    let d : drop (suc i) (xs ++ ys) ≡ drop (suc i) xs ++ ys = drop-append-le (suc i) xs ys (omega arith) in
-    simp (a, b, d, append_assoc)
-
-length_moved : {X : Type 0} (xs : List X) (i : ℕ) → i < length xs → length (moved xs i) ≡ length xs
-length_moved xs i low = simp (length-append, length-take, length-drop) (omega arith)
-
-take_moved : {X : Type 0} (xs : List X) (n i : ℕ) → i < n → n ≤ length xs → take n (moved xs i) ≡ moved (take n xs) i
-take_moved xs n i low high =
-    let len : length (take n xs) ≡ n = length-take-le n xs high in
-    ap (λ (ys : List _). take n (moved ys i)) (sym (take-append-drop n xs))
-    ∙ ap (take n) (moved_append (take n xs) (drop n xs) i (omega arith))
-    ∙ take_at (moved (take n xs) i) (drop n xs) n (length_moved (take n xs) i (omega arith) ∙ len)
-
-map_moved : (xs : List Entry) (i : ℕ) → map seen (moved xs i) ≡ moved (map seen xs) i
-map_moved xs i = simp (map-append, take-map, drop-map)
-
--- an entry that is met goes to the front
-module _ (p : Path) (xs zs : List Entry) (n i : ℕ) (high : n ≤ length xs) (fits : n ≤ 64) (at : Placed p (map seen (take n xs)) (Some i)) (moves : zs ≡ moved xs i) where
-  abbrev es : List Seen
-  es = map seen (take n xs)
-
-  low : i < n
-  low = omega (arith, simp (length-map, length-take) at at.0)
-
-  front : map seen (take n zs) ≡ fresh p at.1.0 ∷ without p es
-  front =
-      ap (λ (ys : List Entry). map seen (take n ys)) moves
-      ∙ ap (map seen) (take_moved xs n i low high)
-      ∙ map_moved (take n xs) i
-      ∙ ap (λ (ys : List Seen). take 1 ys ++ (take i es ++ drop (suc i) es)) at.1.2
-      ∙ ap (λ (ys : List Seen). fresh p at.1.0 ∷ ys) (sym at.1.3)
-
-  pub recalled_kind : (d : Entry) → Some (get_or xs i d).kind ≡ recalled p es
-  recalled_kind d =
-      let same : seen (get_or xs i d) ∷ drop (i + 1) es ≡ fresh p at.1.0 ∷ drop (suc i) es = sym (drop_entry xs n i d low high) ∙ at.1.2 in
-      let f : seen (get_or xs i d) ≡ fresh p at.1.0 = cc in
-      ap (λ (x : Seen). Some x.kind) f ∙ sym at.1.1
-
-  few : length (without p es) ≤ 63
-  few =
-      let l = low in
-      let len : length es ≡ n = simp (length-map, length-take) (omega arith) in
-      subst (λ (ys : List Seen). length ys ≤ 63) (sym at.1.3) (simp (length-append, length-take, length-drop) (omega arith))
-
-  pub recalled_held : map seen (take n zs) ≡ renewed p es
-  recalled_held =
-      front
-      ∙ ap (λ (ys : List Seen). fresh p at.1.0 ∷ ys) (sym (take_all 63 (without p es) few))
-      ∙ ap (renewed_as p es) (sym at.1.1)
+-- it becomes the first of the 63 latest
+pub remembered : (p : Path) (k : Kind) (xs : List Entry) (x : Entry) → seen x ≡ fresh p k → recalled p (map seen xs) ≡ None → map seen (x ∷ take 63 xs) ≡ remember p k (map seen xs)
+remembered p k xs x is none =
+    (λ j. is j ∷ sym (take-map seen 63 xs) j) ∙ ap (λ (es : List Seen). fresh p k ∷ take 63 es) (sym (without_absent p (map seen xs) none))

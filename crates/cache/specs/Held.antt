@@ -1,5 +1,6 @@
 -- What a cache holds, and how a question moves it and the host below. Assumes nothing.
-use Rattle.std.specs.Prelude.{◌≡◌, true, false, List, [], ◌∷◌, map, take}
+use Rattle.std.specs.Prelude.{◌≡◌, true, false, List, [], ◌∷◌, map}
+use Rattle.stack.specs.Held as list
 use Rattle.texts.specs.Held.{bytes_of}
 use Rattle.texts.specs.Parts.{parts}
 use Rattle.texts.specs.Texts.{Text}
@@ -15,7 +16,7 @@ seen e = fresh (parts (bytes_of e.path)) e.kind
 
 -- the paths that are held with their kinds, the latest first
 abbrev pub held : Recent → List Seen
-held s = map seen (take s.count s.entries)
+held s = map seen (list.held s.entries)
 
 -- what is held is what the tree has
 abbrev pub Agrees : (Path → Kind) → List Seen → Type 0

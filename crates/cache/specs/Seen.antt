@@ -56,7 +56,3 @@ renewed p es = renewed_as p es (recalled p es)
 abbrev pub Placed : Path → List Seen → Option ℕ → Type 0
 Placed p es None = recalled p es ≡ None
 Placed p es (Some i) = (i < length es) × ((k : Kind) × (recalled p es ≡ Some k) × (drop i es ≡ fresh p k ∷ drop (suc i) es) × (without p es ≡ take i es ++ drop (suc i) es))
-
--- the element at i goes to the front
-abbrev pub moved : {X : Type 0} → List X → ℕ → List X
-moved xs i = take 1 (drop i xs) ++ (take i xs ++ drop (suc i) xs)

@@ -5,7 +5,7 @@ ghost use Rattle.cache.specs.Seen.{holds_text};
 
 use crate::recent::Recent;
 use texts::{MAX_LEN, Text};
-use tree::{FileTree, Host, Kind, Lookup, Manifest, Way};
+use tree::{Broken, FileTree, Host, Kind, Manifest, Way};
 
 /// A host that holds the kinds of the last 64 different paths asked.
 #[derive(Drop)]
@@ -68,7 +68,7 @@ impl<H: FileTree> FileTree for Cache<H> {
 }
 
 impl<H: Host> Host for Cache<H> {
-    fn manifest(&mut self, path: &[u8]) -> Manifest {
+    fn manifest(&mut self, path: &[u8]) -> Result<Option<Manifest>, Broken> {
         self.below.manifest(path)
     }
 
@@ -76,7 +76,13 @@ impl<H: Host> Host for Cache<H> {
         self.below.main_text(path, i)
     }
 
-    fn lookup(&mut self, way: Way, request: &[u8], directory: &[u8], out: &mut [u8]) -> Lookup {
+    fn lookup(
+        &mut self,
+        way: Way,
+        request: &[u8],
+        directory: &[u8],
+        out: &mut [u8],
+    ) -> Result<Option<usize>, Broken> {
         self.below.lookup(way, request, directory, out)
     }
 

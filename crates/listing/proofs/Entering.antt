@@ -1,86 +1,125 @@
 -- A line that is offered: what is returned, and the rows then. Assumes nothing.
-use Rattle.std.proofs.Common.{◌≡◌, ℕ, ◌+◌, ◌<◌, ◌≤◌, Bool, true, false, cond, not, leb, List, [], ◌∷◌, ◌++◌, map, length, take, set, Some, None, Option, sym, refl, ap, ◌∙◌, arith}
-use Rattle.std.proofs.lemmas.List.{length_push, map_push, take_more_set}
-use Rattle.std.proofs.lemmas.Bool.{and_from, and_parts, leb-false, not-false}
+use Rattle.std.proofs.Common.{◌≡◌, ℕ, ◌+◌, ◌≤◌, Bool, true, false, cond, not, leb, ltb, List, [], ◌∷◌, ◌++◌, map, length, Some, None, Option, Ok, Err, sym, refl, ap, ◌∙◌, arith}
+use Rattle.std.specs.Option.{ok_or}
+use Rattle.std.proofs.lemmas.List.{length-map, map_push}
+use Rattle.std.proofs.lemmas.Bool.{and_from, and_parts, cond-true, cond-false, le-leb, lt-leb, ltb-true, ltb-false, not-false}
+use Rattle.texts.specs.Taken.{taken_unless}
 use Rattle.texts.specs.Texts.{Text}
 use Rattle.listing.specs.declared.kinds.LineKind.{LineKind}
 use Rattle.listing.specs.declared.line.Line.{Line}
-use Rattle.listing.specs.declared.listing.Listing.{Listing}
 use Rattle.listing.specs.declared.refusals.Refusal.{Refusal}
-use Rattle.listing.specs.Entries.{entered, headless, new_row, refusal, refusal_by, refusal_of, rows, rows_after, spelled, with_row}
+use Rattle.listing.specs.declared.refusals.Refusal.TheVariants as refusals
+use Rattle.listing.specs.Entries.{headless, new_row, refusal, refusal_by, refusal_of, rows_after, spelled, unlisted, with_row}
 use Rattle.listing.specs.Kinds.{formed, line_kind}
 use Rattle.listing.specs.Meanings.{Asked, fits, place, place_from}
 use Rattle.listing.specs.Rows.{Row, all_fit, fit, row, row_of}
 use Rattle.listing.specs.Kept.{fit_pushed, sized_short}
-use Rattle.listing.specs.RowsLemmas.{length_rows}
 
 -- the answer and the rows, once the kind and the refusal are known
-module _ (rs : List Row) (n : ℕ) (a b : Text) (o : Option LineKind) (e : Option Refusal) (kind : o ≡ line_kind n) (is : e ≡ refusal_by rs o a b) where
-  known : e ≡ refusal rs n a b
+module _ (rs : List Row) (n : ℕ) (a b : Text) (o : Option LineKind) (e : Option Refusal) (kind : line_kind n ≡ o) (is : refusal_by rs o a b ≡ e) where
+  known : refusal rs n a b ≡ e
   unfolding refusal
-  known = is ∙ ap (λ (k : Option LineKind). refusal_by rs k a b) kind
+  known = ap (λ (k : Option LineKind). refusal_by rs k a b) kind ∙ is
 
-  pub answer_is : entered e ≡ entered (refusal rs n a b)
-  answer_is = ap entered known
+  pub answer_is : taken_unless e ≡ taken_unless (refusal rs n a b)
+  answer_is = ap taken_unless (sym known)
 
   pub rows_are : with_row e rs (new_row o a b) ≡ rows_after rs n a b
   unfolding rows_after
-  rows_are = ap (λ (x : Option Refusal). with_row x rs (new_row o a b)) known ∙ ap (λ (k : Option LineKind). with_row (refusal rs n a b) rs (new_row k a b)) kind
+  rows_are = (λ i. with_row (sym known i) rs (new_row (sym kind i) a b))
 
 -- the place that decides stays where it is when rows follow
-place_before : (q : Asked) (rs new : List Row) (n i : ℕ) → place_from n q rs ≡ Some i → place_from n q (rs ++ new) ≡ Some i
-place_before q [] new n i h = let z : ◌≡◌ {A = ℕ} 0 1 = cc in absurd (omega arith)
+pub place_before : (q : Asked) (rs new : List Row) (n i : ℕ) → place_from n q rs ≡ Some i → place_from n q (rs ++ new) ≡ Some i
+place_before q [] new n i h = cc
 place_before q (r ∷ rs) new n i h = at (fits q r) h (place_before q rs new (n + 1) i)
   where
     at : (v : Bool) → cond v (Some n) (place_from (n + 1) q rs) ≡ Some i → (place_from (n + 1) q rs ≡ Some i → place_from (n + 1) q (rs ++ new) ≡ Some i) → cond v (Some n) (place_from (n + 1) q (rs ++ new)) ≡ Some i
     at true e more = e
     at false e more = more e
 
--- a line that is not refused
-some_none : {A : Type 0} (x : A) → Some x ≡ None → ⊥
-some_none x h = let z : ◌≡◌ {A = ℕ} 0 1 = cc in omega arith
+-- a number that is none of a kind
+no_kind : (o : Option LineKind) (e : Refusal) → Err e ≡ ok_or o refusals.Kind → (o ≡ None) × (Some refusals.Kind ≡ Some e)
+no_kind None e h = (refl, cc)
+no_kind (Some k) e h = cc
 
-left_out : {A : Type 0} (v : Bool) (x : A) (o : Option A) → cond v (Some x) o ≡ None → (v ≡ false) × (o ≡ None)
-left_out true x o h = absurd (some_none x h)
-left_out false x o h = (refl, h)
+a_kind : (o : Option LineKind) (k : LineKind) → Ok k ≡ ok_or o refusals.Kind → o ≡ Some k
+a_kind None k h = cc
+a_kind (Some j) k h = cc
 
-taken_fits : (rs : List Row) (k : LineKind) (a b : Text) → refusal_of rs k a b ≡ None → (fit (row_of k a b) ≡ true) × (length rs < 256)
-taken_fits rs k a b h =
-    let headed = left_out (headless k rs) _ _ h in
-    let texts = left_out (not (spelled k a b)) _ _ headed.1 in
-    let form = left_out (not (formed k a b)) _ _ texts.1 in
-    let room = left_out (leb 256 (length rs)) _ _ form.1 in
-    (and_from _ _ (and_parts _ _ (not-false (spelled k a b) texts.0)).0 (not-false (formed k a b) form.0), leb-false 256 (length rs) room.0)
+pub kind_refused : (rs : List Row) (n : ℕ) (a b : Text) (e : Refusal) → Err e ≡ ok_or (line_kind n) refusals.Kind → (Err e ≡ taken_unless (refusal rs n a b)) × (rs ≡ rows_after rs n a b)
+kind_refused rs n a b e h =
+    let none = no_kind (line_kind n) e h in
+    (answer_is rs n a b None (Some e) none.0 none.1, rows_are rs n a b None (Some e) none.0 none.1)
 
--- a line that is taken, in the next slot
-module _ (s : Listing) (k : LineKind) (a b : Text) (o : Option Refusal) (is : o ≡ refusal_of (rows s) k a b) (none : o ≡ None) where
-  taken : (fit (row_of k a b) ≡ true) × (length (rows s) < 256)
-  taken = taken_fits (rows s) k a b (sym is ∙ none)
+-- which check fails
+checked : (h t f : Bool) (r s u : Refusal) (o : Option Refusal) → ((e : Refusal) → Err e ≡ taken_unless (cond h (Some r) (cond t (Some s) (cond f (Some u) None))) → cond h (Some r) (cond t (Some s) (cond f (Some u) o)) ≡ Some e) × (Ok tt ≡ taken_unless (cond h (Some r) (cond t (Some s) (cond f (Some u) None))) → (t ≡ false) × (f ≡ false) × (cond h (Some r) (cond t (Some s) (cond f (Some u) o)) ≡ o))
+checked true t f r s u o = (λ e x. cc, λ x. cc)
+checked false true f r s u o = (λ e x. cc, λ x. cc)
+checked false false true r s u o = (λ e x. cc, λ x. cc)
+checked false false false r s u o = (λ e x. cc, λ x. (refl, refl, refl))
 
-  pub short_texts : (length a ≤ 255) × (length b ≤ 255)
-  short_texts = sized_short k (length a) (length b) (and_parts _ _ taken.0).0
+module _ (rs : List Row) (n : ℕ) (k : LineKind) (a b : Text) (kind : Ok k ≡ ok_or (line_kind n) refusals.Kind) where
+  passes : Ok tt ≡ taken_unless (unlisted rs k a b) → (not (spelled k a b) ≡ false) × (not (formed k a b) ≡ false) × (refusal_of rs k a b ≡ cond (leb 256 (length rs)) (Some refusals.Full) None)
+  passes = (checked (headless k rs) (not (spelled k a b)) (not (formed k a b)) refusals.MainBeforeManifest refusals.Text refusals.Form (cond (leb 256 (length rs)) (Some refusals.Full) None)).1
 
-  pub room_left : s.count < 256
-  room_left = omega (arith, length_rows s, taken.1)
+  fails : (e : Refusal) → Err e ≡ taken_unless (unlisted rs k a b) → refusal_of rs k a b ≡ Some e
+  fails = (checked (headless k rs) (not (spelled k a b)) (not (formed k a b)) refusals.MainBeforeManifest refusals.Text refusals.Form (cond (leb 256 (length rs)) (Some refusals.Full) None)).0
 
-  module _ (l : Line) (new : row l ≡ row_of k a b) where
-    abbrev rows_then : List Row
-    rows_then = map row (take (s.count + 1) (set s.lines s.count l))
+  is_kind : line_kind n ≡ Some k
+  is_kind = a_kind (line_kind n) k kind
 
-    one_more : rows_then ≡ rows s ++ row_of k a b ∷ []
-    one_more =
-        ap (map row) (take_more_set s.lines s.count l (omega (arith, room_left, s.full)))
-        ∙ map_push row (take s.count s.lines) l
-        ∙ ap (λ (r : Row). rows s ++ r ∷ []) new
+  pub line_refused : (e : Refusal) → Err e ≡ taken_unless (unlisted rs k a b) → (Err e ≡ taken_unless (refusal rs n a b)) × (rs ≡ rows_after rs n a b)
+  line_refused e h = (answer_is rs n a b (Some k) (Some e) is_kind (fails e h), rows_are rs n a b (Some k) (Some e) is_kind (fails e h))
 
-    pub fit_then : all_fit rows_then ≡ true
-    fit_then = ap all_fit one_more ∙ fit_pushed (rows s) (row_of k a b) s.fit taken.0
+  module _ (well : Ok tt ≡ taken_unless (unlisted rs k a b)) where
+    pub fit_row : fit (row_of k a b) ≡ true
+    fit_row = let c = passes well in and_from _ _ (and_parts _ _ (not-false (spelled k a b) c.0)).0 (not-false (formed k a b) c.1)
 
-    pub few_then : length rows_then ≤ 256
-    few_then = omega (arith, taken.1, ap length one_more, length_push (rows s) (row_of k a b))
+    pub short_texts : (length a ≤ 255) × (length b ≤ 255)
+    short_texts = sized_short k (length a) (length b) (and_parts _ _ fit_row).0
 
-    pub place_then : (q : Asked) (i : ℕ) → place q (rows s) ≡ Some i → place q rows_then ≡ Some i
-    place_then q i h = ap (place q) one_more ∙ place_before q (rows s) (row_of k a b ∷ []) 0 i h
+    -- the line was put behind the others, or there was no room
+    module _ (ls ms : List Line) (l : Line) (v : Bool) (before : rs ≡ map row ls) (tested : v ≡ ltb (length ls) 256) (after : ms ≡ cond v (ls ++ l ∷ []) ls) (new : row l ≡ row_of k a b) where
+      rows_now : map row ms ≡ cond v (rs ++ row_of k a b ∷ []) rs
+      rows_now = ap (map row) after ∙ at v
+        where
+          at : (w : Bool) → map row (cond w (ls ++ l ∷ []) ls) ≡ cond w (rs ++ row_of k a b ∷ []) rs
+          at true = map_push row ls l ∙ (λ i. sym before i ++ new i ∷ [])
+          at false = sym before
 
-    pub taken_rows : (n : ℕ) → Some k ≡ line_kind n → rows_then ≡ rows_after (rows s) n a b
-    taken_rows n kind = one_more ∙ rows_are (rows s) n a b (Some k) None kind (sym none ∙ is)
+      same_length : length ls ≡ length rs
+      same_length = sym (ap length before ∙ length-map ls row)
+
+      refused_without_room : cond v None (Some refusals.Full) ≡ cond (leb 256 (length rs)) (Some refusals.Full) None
+      refused_without_room = at v tested
+        where
+          at : (w : Bool) → w ≡ ltb (length ls) 256 → cond w None (Some refusals.Full) ≡ cond (leb 256 (length rs)) (Some refusals.Full) None
+          at true e = sym (cond-false (leb 256 (length rs)) (Some refusals.Full) None (lt-leb 256 (length rs) (omega (arith, same_length, ltb-true (length ls) 256 (sym e)))))
+          at false e = sym (cond-true (leb 256 (length rs)) (Some refusals.Full) None (le-leb 256 (length rs) (omega (arith, same_length, ltb-false (length ls) 256 (sym e)))))
+
+      refusal_is : refusal_by rs (Some k) a b ≡ cond v None (Some refusals.Full)
+      refusal_is = (passes well).2 ∙ sym refused_without_room
+
+      pub answer_then : taken_unless (cond v None (Some refusals.Full)) ≡ taken_unless (refusal rs n a b)
+      answer_then = answer_is rs n a b (Some k) (cond v None (Some refusals.Full)) is_kind refusal_is
+
+      pub rows_then : map row ms ≡ rows_after rs n a b
+      rows_then = rows_now ∙ at v ∙ rows_are rs n a b (Some k) (cond v None (Some refusals.Full)) is_kind refusal_is
+        where
+          at : (w : Bool) → cond w (rs ++ row_of k a b ∷ []) rs ≡ with_row (cond w None (Some refusals.Full)) rs (row_of k a b ∷ [])
+          at true = refl
+          at false = refl
+
+      pub fit_then : all_fit rs ≡ true → all_fit (map row ms) ≡ true
+      fit_then h = ap all_fit rows_now ∙ at v
+        where
+          at : (w : Bool) → all_fit (cond w (rs ++ row_of k a b ∷ []) rs) ≡ true
+          at true = fit_pushed rs (row_of k a b) h fit_row
+          at false = h
+
+      pub places_then : (q : Asked) (i : ℕ) → place q rs ≡ Some i → place q (map row ms) ≡ Some i
+      places_then q i h = ap (place q) rows_now ∙ at v
+        where
+          at : (w : Bool) → place q (cond w (rs ++ row_of k a b ∷ []) rs) ≡ Some i
+          at true = place_before q rs (row_of k a b ∷ []) 0 i h
+          at false = h

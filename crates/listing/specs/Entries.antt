@@ -1,5 +1,6 @@
 -- The rows that a listing has, which lines it refuses, and its rows after one was offered. Assumes nothing.
-use Rattle.std.specs.Prelude.{ℕ, Bool, true, false, cond, not, ◌&&◌, List, [], ◌∷◌, ◌++◌, map, length, take, Some, None, Ok, Err, Option, Result, nat_le}
+use Rattle.std.specs.Prelude.{ℕ, Bool, true, false, cond, not, ◌&&◌, List, [], ◌∷◌, ◌++◌, map, length, Some, None, Option, nat_le}
+use Rattle.stack.specs.Held.{held}
 use Rattle.texts.specs.Texts.{Text, printable}
 use Rattle.listing.specs.declared.kinds.LineKind.{LineKind}
 use Rattle.listing.specs.declared.kinds.LineKind.TheVariants.{File, Directory, BrokenManifest, Manifest, Main, Package, Hash}
@@ -11,7 +12,7 @@ use Rattle.listing.specs.Rows.{Row, is_manifest, row, row_of}
 
 -- the rows of a listing, in their order
 abbrev pub rows : Listing → List Row
-rows s = map row (take s.count s.lines)
+rows s = map row (held s.lines)
 
 -- some row is a manifest that is not broken
 abbrev pub has_manifest : List Row → Bool
@@ -32,6 +33,13 @@ headless Hash rs = false
 abbrev pub spelled : LineKind → Text → Text → Bool
 spelled k a b = sized k (length a) (length b) && (printable a && printable b)
 
+-- why a line of a kind cannot stand behind these rows, in the order of the checks, the one for room aside
+abbrev pub unlisted : List Row → LineKind → Text → Text → Option Refusal
+unlisted rs k a b =
+    cond (headless k rs) (Some refusals.MainBeforeManifest)
+    (cond (not (spelled k a b)) (Some refusals.Text)
+    (cond (not (formed k a b)) (Some refusals.Form) None))
+
 -- why a line of a kind is refused, in the order of the checks; none if it is taken
 abbrev pub refusal_of : List Row → LineKind → Text → Text → Option Refusal
 refusal_of rs k a b =
@@ -48,11 +56,6 @@ refusal_by rs (Some k) a b = refusal_of rs k a b
 -- why a line is refused; none if it is taken
 unfoldable pub refusal : List Row → ℕ → Text → Text → Option Refusal
 refusal rs n a b = refusal_by rs (line_kind n) a b
-
--- what the call returns
-abbrev pub entered : Option Refusal → Result Unit Refusal
-entered None = Ok tt
-entered (Some e) = Err e
 
 -- the row that a line with this number is
 abbrev pub new_row : Option LineKind → Text → Text → List Row

@@ -1,5 +1,5 @@
 -- What rows mean: the first row that fits a question decides. Assumes nothing.
-use Rattle.std.specs.Prelude.{◌≡◌, ℕ, zero, suc, ◌+◌, ◌<◌, Bool, true, false, cond, ◌&&◌, List, [], ◌∷◌, length, drop, Some, None, Option}
+use Rattle.std.specs.Prelude.{◌≡◌, ℕ, ◌+◌, ◌<◌, Bool, true, false, cond, ◌&&◌, List, [], ◌∷◌, length, drop, Some, None, Option}
 use Rattle.std.specs.Str.{bytes_eq}
 use Rattle.texts.specs.Texts.{Text}
 use Rattle.texts.specs.Parts.{parts, same_parts}
@@ -109,12 +109,6 @@ mains_with Hash t ts = ts
 abbrev pub mains_behind : List Row → List Text
 mains_behind [] = []
 mains_behind (r ∷ rs) = mains_with r.kind r.first (mains_behind rs)
-
--- the main text at a place, none beyond the last
-abbrev pub main_at : List Text → ℕ → Option Text
-main_at [] i = None
-main_at (t ∷ ts) zero = Some t
-main_at (t ∷ ts) (suc i) = main_at ts i
 
 -- the kind that the deciding row gives
 abbrev pub kind_by : List Row → Kind

@@ -51,3 +51,13 @@ is_manifest Manifest = true
 is_manifest Main = false
 is_manifest Package = false
 is_manifest Hash = false
+
+-- a main text
+abbrev pub is_main : LineKind → Bool
+is_main File = false
+is_main Directory = false
+is_main BrokenManifest = false
+is_main Manifest = false
+is_main Main = true
+is_main Package = false
+is_main Hash = false

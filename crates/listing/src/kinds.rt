@@ -1,7 +1,9 @@
 // What a line lists, what its texts may be, and what can be asked of it.
 ghost use Rattle.std.specs.Prelude.{◌≡◌};
+ghost use Rattle.std.specs.Option.{ok_or};
 ghost use Rattle.listing.specs.Kinds.{formed, line_kind, sized};
 
+use crate::refusals::Refusal;
 use texts::{MAX_LEN, is_clean};
 use tree::Way;
 
@@ -31,23 +33,31 @@ pub enum Topic {
     Lookup(Way),
 }
 
-impl LineKind {
+impl TryFrom<u16> for LineKind {
+    ghost use Rattle.listing.specs.declared.refusals.Refusal.{Refusal};
+
+    type Error = Refusal;
+
+    ghost try_from_gives = { λ number r. r ≡ ok_or (line_kind number) Refusal.Kind };
+
     /// The kind that an office gives this number.
-    pub fn of(number: u16) -> Option<LineKind>
-        ensures kind_by_its_number { result ≡ line_kind number }
+    fn try_from(number: u16) -> Result<LineKind, Refusal>
+        ensures kind_by_its_number { result ≡ ok_or (line_kind number) Refusal.Kind }
     {
         match number {
-            1 => Some(LineKind::File),
-            2 => Some(LineKind::Directory),
-            3 => Some(LineKind::BrokenManifest),
-            4 => Some(LineKind::Manifest),
-            5 => Some(LineKind::Main),
-            9 => Some(LineKind::Package),
-            10 => Some(LineKind::Hash),
-            _ => None,
+            1 => Ok(LineKind::File),
+            2 => Ok(LineKind::Directory),
+            3 => Ok(LineKind::BrokenManifest),
+            4 => Ok(LineKind::Manifest),
+            5 => Ok(LineKind::Main),
+            9 => Ok(LineKind::Package),
+            10 => Ok(LineKind::Hash),
+            _ => Err(Refusal::Kind),
         }
     }
+}
 
+impl LineKind {
     // Whether texts of these lengths may stand in a line of this kind.
     pub(crate) fn takes_lengths(self, first: usize, second: usize) -> bool
         ensures lengths_by_the_kind { result ≡ sized self first second }

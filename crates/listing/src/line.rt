@@ -1,17 +1,11 @@
 // One line, and what it says.
 ghost use Rattle.std.specs.Prelude.{◌≡◌, ◌≤◌, [], length};
-ghost use Rattle.listing.specs.Rows.{is_manifest, kind_listed, row, row_of};
+ghost use Rattle.listing.specs.Rows.{is_main, is_manifest, kind_listed, row, row_of};
 ghost use Rattle.listing.specs.Meanings.{asked, fits};
-ghost use Rattle.texts.specs.Texts.{printable};
 
 use crate::kinds::{LineKind, Topic};
 use texts::{Text, same_bytes, same_path};
 use tree::{Kind, Way};
-
-// The least and the largest byte of a line's text.
-const MIN_BYTE: u8 = 32;
-
-const MAX_BYTE: u8 = 126;
 
 /// A kind and two texts: a path or a main text and nothing, or a request and a path.
 #[derive(Clone, Copy)]
@@ -19,18 +13,6 @@ pub struct Line {
     pub(crate) kind: LineKind,
     pub(crate) first: Text<255>,
     pub(crate) second: Text<255>,
-}
-
-// Whether every byte is one from 32 to 126.
-pub(crate) fn is_printable(text: &[u8]) -> bool
-    ensures every_byte_is_32_to_126 { result ≡ printable text.now }
-{
-    for b in text {
-        if *b < MIN_BYTE || *b > MAX_BYTE {
-            return false;
-        }
-    }
-    true
 }
 
 impl Line {
@@ -46,7 +28,8 @@ impl Line {
     }
 
     pub(crate) fn new(kind: LineKind, first: &[u8], second: &[u8]) -> Line
-        requires { (length first.now ≤ 255) × (length second.now ≤ 255) }
+        requires first_is_short { length first.now ≤ 255 }
+        requires second_is_short { length second.now ≤ 255 }
         ensures row_of_kind_and_texts { row result ≡ row_of kind first.now second.now }
     {
         Line {
@@ -76,10 +59,14 @@ impl Line {
     pub(crate) fn is_manifest(&self) -> bool
         ensures manifest_by_its_kind { result ≡ is_manifest self.now.kind }
     {
-        match self.kind {
-            LineKind::Manifest => true,
-            _ => false,
-        }
+        matches!(self.kind, LineKind::Manifest)
+    }
+
+    // Whether the line is a main text.
+    pub(crate) fn is_main(&self) -> bool
+        ensures main_text_by_its_kind { result ≡ is_main self.now.kind }
+    {
+        matches!(self.kind, LineKind::Main)
     }
 
     // The kind that the line gives its path.

@@ -5,16 +5,16 @@ ghost use Rattle.listing.specs.Kinds.{number};
 /// Why a line is not taken.
 #[derive(Clone, Copy, PartialEq, Eq, Debug)]
 pub enum Refusal {
-    /// There is no such kind.
-    Kind,
-    /// A main text before any manifest.
-    MainBeforeManifest,
     /// A length or a byte that the kind does not take.
-    Text,
-    /// A path that is not clean.
-    Form,
+    Text = 11,
     /// There are 256 lines.
-    Full,
+    Full = 12,
+    /// A path that is not clean.
+    Form = 13,
+    /// A main text before any manifest.
+    MainBeforeManifest = 14,
+    /// There is no such kind.
+    Kind = 15,
 }
 
 impl Refusal {
@@ -22,12 +22,6 @@ impl Refusal {
     pub fn number(self) -> u8
         ensures number_of_the_refusal { result ≡ number self }
     {
-        match self {
-            Refusal::Text => 11,
-            Refusal::Full => 12,
-            Refusal::Form => 13,
-            Refusal::MainBeforeManifest => 14,
-            Refusal::Kind => 15,
-        }
+        self as u8
     }
 }

@@ -1,7 +1,7 @@
 // Examples of listings, and their limits.
 use crate::{Listing, Refusal};
 use std::test::Fail;
-use tree::{FileTree, Host, Kind, Lookup, Manifest, Way};
+use tree::{Broken, FileTree, Host, Kind, Manifest, Way};
 
 #[test]
 fn first_line_decides(rt: HostRuntime) -> Result<(), Fail> {
@@ -26,8 +26,8 @@ fn main_texts_follow_their_manifest(rt: HostRuntime) -> Result<(), Fail> {
     listing.add(1, b"/f", b"")?;
     listing.add(5, b"", b"")?;
     listing.add(5, b"n", b"")?;
-    assert_eq!(rt; listing.manifest(b"/a"), Manifest::Mains(1));
-    assert_eq!(rt; listing.manifest(b"/b"), Manifest::Mains(2));
+    assert_eq!(rt; listing.manifest(b"/a"), Ok(Some(Manifest { mains: 1 })));
+    assert_eq!(rt; listing.manifest(b"/b"), Ok(Some(Manifest { mains: 2 })));
     assert_eq!(rt; listing.main_text(b"/b", 1).ok_or("none")?, b"n".as_slice());
     Ok(())
 }
@@ -40,16 +40,13 @@ fn lookups_ignore_the_directory(rt: HostRuntime) -> Result<(), Fail> {
     let mut out = [0; 4];
     assert_eq!(rt;
         listing.lookup(Way::Package, b"p", b"/x", &mut out),
-        Lookup::Found(2)
+        Ok(Some(2))
     );
     assert_eq!(rt;
         listing.lookup(Way::Hash, b"h", b"/x", &mut out),
-        Lookup::Broken
+        Err(Broken)
     );
-    assert_eq!(rt;
-        listing.lookup(Way::Hash, b"p", b"/x", &mut out),
-        Lookup::Missing
-    );
+    assert_eq!(rt; listing.lookup(Way::Hash, b"p", b"/x", &mut out), Ok(None));
     assert_eq!(rt; &out, &[47, 97, 0, 0]);
     Ok(())
 }

@@ -1,13 +1,11 @@
 -- What a host means: its file tree and its answers, as one value. Assumes nothing.
-use Rattle.std.specs.Prelude.{◌≡◌, ℕ, ◌≤◌, Bool, true, false, cond, List, [], length, Some, None, Option, nat_le}
+use Rattle.std.specs.Prelude.{◌≡◌, ℕ, ◌≤◌, Bool, true, false, cond, List, [], length, Some, None, Option, Ok, Err, Result, nat_le}
 use Rattle.std.specs.List.{AllByRecursion}
 use Rattle.texts.specs.Texts.{Text, SLASH, begins}
 use Rattle.tree.specs.declared.answers.Kind.{Kind}
 use Rattle.tree.specs.declared.answers.Kind.TheVariants.{Nothing, File, Directory}
-use Rattle.tree.specs.declared.answers.Lookup.{Lookup}
-use Rattle.tree.specs.declared.answers.Lookup.TheVariants.{Found, Missing, Broken}
-use Rattle.tree.specs.declared.answers.Manifest as answer
-use Rattle.tree.specs.declared.answers.Manifest.TheVariants as manifest
+use Rattle.tree.specs.declared.answers.Broken.{Broken}
+use Rattle.tree.specs.declared.answers.Manifest.{Manifest}
 use Rattle.tree.specs.declared.answers.Way.{Way}
 
 -- a path, as a list of parts
@@ -46,10 +44,10 @@ is_file File = true
 is_file Directory = false
 
 -- the answer to the manifest question
-abbrev pub counted : Noted → answer.Manifest
-counted unnoted = manifest.Absent
-counted unreadable = manifest.Broken
-counted (noted ts) = manifest.Mains (length ts)
+abbrev pub counted : Noted → Result (Option Manifest) Broken
+counted unnoted = Ok None
+counted unreadable = Err (record {})
+counted (noted ts) = Ok (Some (record { mains = length ts }))
 
 -- the main texts of a manifest
 abbrev pub mains : Noted → List Text
@@ -58,10 +56,10 @@ mains unreadable = []
 mains (noted ts) = ts
 
 -- the answer to a lookup with a buffer of n bytes: a path that is longer is missing
-abbrev pub answered : Finding → ℕ → Lookup
-answered (found p) n = cond (nat_le (length p) n) (Found (length p)) Missing
-answered missing n = Missing
-answered faulty n = Broken
+abbrev pub answered : Finding → ℕ → Result (Option ℕ) Broken
+answered (found p) n = Ok (cond (nat_le (length p) n) (Some (length p)) None)
+answered missing n = Ok None
+answered faulty n = Err (record {})
 
 -- the path that was found
 abbrev pub path_found : Finding → Option Text

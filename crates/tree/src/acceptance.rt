@@ -7,18 +7,15 @@ ghost use Rattle.tree.specs.Meanings.{kind_of};
 use crate::answers::Kind;
 use crate::policy::Policy;
 use crate::traits::FileTree;
-use texts::{Text, same_bytes};
+use texts::Text;
 
 // Whether every restriction has exactly the path's bytes.
 fn passes_restrictions(restrictions: &[Text<255>], path: &[u8]) -> bool
     ensures same_bytes_as_each_restriction { result ≡ unrestricted (map bytes_of restrictions.now) path.now }
 {
-    for i in 0..restrictions.len() {
-        if !same_bytes(path, restrictions[i].as_bytes()) {
-            return false;
-        }
-    }
-    true
+    restrictions
+        .iter()
+        .all(|restriction| path == restriction.as_bytes())
 }
 
 /// Whether `path` is acceptable: it is a file, the policy allows it, and every restriction has exactly its bytes. The tree is asked once, and first.

@@ -8,12 +8,14 @@ pub enum Kind {
     Directory,
 }
 
-/// The manifest at a path: none, a broken one, or how many main texts it has.
+/// What is there cannot be read.
 #[derive(Clone, Copy, PartialEq, Eq, Debug)]
-pub enum Manifest {
-    Absent,
-    Broken,
-    Mains(usize),
+pub struct Broken;
+
+/// A manifest that can be read, by how many main texts it has.
+#[derive(Clone, Copy, PartialEq, Eq, Debug)]
+pub struct Manifest {
+    pub mains: usize,
 }
 
 /// Which lookup is asked for.
@@ -21,12 +23,4 @@ pub enum Manifest {
 pub enum Way {
     Package,
     Hash,
-}
-
-/// What a lookup came to: the length of the path that was written, missing or broken.
-#[derive(Clone, Copy, PartialEq, Eq, Debug)]
-pub enum Lookup {
-    Found(usize),
-    Missing,
-    Broken,
 }

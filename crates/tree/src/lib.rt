@@ -9,8 +9,8 @@ mod policy;
 mod traits;
 
 pub use acceptance::is_acceptable;
-pub use answers::{Kind, Lookup, Manifest, Way};
-pub use endings::Endings;
+pub use answers::{Broken, Kind, Manifest, Way};
+pub use endings::{EndingRefusal, Endings};
 pub use part_count::PartCount;
 pub use policy::Policy;
 pub use traits::{FileTree, Host};

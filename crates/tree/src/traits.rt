@@ -6,7 +6,7 @@ ghost use Rattle.texts.specs.Parts.{parts};
 ghost use Rattle.texts.specs.Texts.{buffer_with};
 ghost use Rattle.tree.specs.Meanings.{Meaning, Proper, Question, answered, counted, forgetting, kind_of, lookup_of, mains, manifest_of, path_found};
 
-use crate::answers::{Kind, Lookup, Manifest, Way};
+use crate::answers::{Broken, Kind, Manifest, Way};
 
 /// A file tree: each list of parts is nothing, a file or a directory.
 pub trait FileTree {
@@ -32,8 +32,8 @@ pub trait FileTree {
 
 /// A host: a file tree that answers three more questions and can be told to forget.
 pub trait Host: FileTree {
-    /// The manifest at `path`.
-    fn manifest(&mut self, path: &[u8]) -> Manifest
+    /// The manifest at `path`, if there is one.
+    fn manifest(&mut self, path: &[u8]) -> Result<Option<Manifest>, Broken>
         requires sound { Self.FileTree.sound self.old }
         ensures answer_by_the_meaning { result ≡ counted ((Self.FileTree.meaning self.old).manifest (parts path.now)) }
         ensures same_meaning { Self.FileTree.meaning self.new ≡ Self.FileTree.meaning self.old }
@@ -45,8 +45,14 @@ pub trait Host: FileTree {
         requires sound { Self.FileTree.sound self.now }
         ensures main_text_in_its_place { option_map (λ x. x.now) result ≡ item_at (mains ((Self.FileTree.meaning self.now).manifest (parts path.now))) i };
 
-    /// Looks `request` up from `directory`. A path that is found is written to the front of `out`; one that does not fit `out` is missing, and `out` stays as it was.
-    fn lookup(&mut self, way: Way, request: &[u8], directory: &[u8], out: &mut [u8]) -> Lookup
+    /// Looks `request` up from `directory`. A path that is found is written to the front of `out`, and its length is returned; for one that does not fit, there is none and `out` stays as it was.
+    fn lookup(
+        &mut self,
+        way: Way,
+        request: &[u8],
+        directory: &[u8],
+        out: &mut [u8],
+    ) -> Result<Option<usize>, Broken>
         requires sound { Self.FileTree.sound self.old }
         ensures answer_by_the_meaning { result ≡ answered ((Self.FileTree.meaning self.old).lookup way request.now (parts directory.now)) (length out.old) }
         ensures path_in_front { out.new ≡ buffer_with (path_found ((Self.FileTree.meaning self.old).lookup way request.now (parts directory.now))) out.old }

@@ -1,7 +1,5 @@
 // The kinds of the last paths asked, the latest first. The structs stand alone in their file: the definitions in specs/ name them.
-ghost use Rattle.std.specs.Prelude.{◌≡◌, ◌≤◌, length};
-ghost use Rattle.cache.specs.Seen.{room};
-
+use stack::ArrayVec;
 use texts::{MAX_LEN, Text};
 use tree::Kind;
 
@@ -18,8 +16,5 @@ pub struct Entry {
 
 #[derive(Drop)]
 pub struct Recent {
-    entries: [Entry; ROOM],
-    count: usize,
-    ghost full: { length entries ≡ room },
-    ghost within: { count ≤ room },
+    entries: ArrayVec<Entry, ROOM>,
 }

@@ -8,7 +8,7 @@ ghost use Rattle.listing.specs.RowsLemmas.{few_lines};
 use crate::kinds::{LineKind, Topic};
 use crate::listing::Listing;
 use texts::copy_text;
-use tree::{FileTree, Host, Kind, Lookup, Manifest, Way};
+use tree::{Broken, FileTree, Host, Kind, Manifest, Way};
 
 impl FileTree for Listing {
     ghost meaning = { λ s. listed (rows s) };
@@ -28,14 +28,17 @@ impl FileTree for Listing {
 }
 
 impl Host for Listing {
-    fn manifest(&mut self, path: &[u8]) -> Manifest {
+    fn manifest(&mut self, path: &[u8]) -> Result<Option<Manifest>, Broken> {
         let Some(i) = self.deciding_line(Topic::Manifest, path) else {
-            return Manifest::Absent;
+            return Ok(None);
         };
         match self.line(i).kind {
-            LineKind::Manifest => Manifest::Mains(self.count_mains(i + 1)),
-            LineKind::BrokenManifest => Manifest::Broken,
-            _ => Manifest::Absent,
+            LineKind::Manifest => {
+                let mains = self.count_mains(i + 1);
+                Ok(Some(Manifest { mains }))
+            }
+            LineKind::BrokenManifest => Err(Broken),
+            _ => Ok(None),
         }
     }
 
@@ -47,18 +50,21 @@ impl Host for Listing {
         }
     }
 
-    fn lookup(&mut self, way: Way, request: &[u8], _directory: &[u8], out: &mut [u8]) -> Lookup {
+    fn lookup(
+        &mut self,
+        way: Way,
+        request: &[u8],
+        _directory: &[u8],
+        out: &mut [u8],
+    ) -> Result<Option<usize>, Broken> {
         let Some(i) = self.deciding_line(Topic::Lookup(way), request) else {
-            return Lookup::Missing;
+            return Ok(None);
         };
         let path = self.line(i).second.as_bytes();
         if path.is_empty() {
-            return Lookup::Broken;
+            return Err(Broken);
         }
-        match copy_text(path, out) {
-            Some(len) => Lookup::Found(len),
-            None => Lookup::Missing,
-        }
+        Ok(copy_text(path, out))
     }
 
     fn forget(&mut self) {}

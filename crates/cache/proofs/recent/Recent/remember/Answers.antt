@@ -1,32 +1,21 @@
-use Rattle.std.proofs.Common.{◌≡◌, ℕ, ◌+◌, ◌-◌, ◌<◌, ◌⊎◌, List, map, take, set, refl, ap, ◌∙◌, inl, inr, arith}
+use Rattle.std.proofs.Common.{◌∷◌, List, map, length, refl, ap, ◌∙◌, arith}
+use Rattle.std.proofs.lemmas.List.{length-take}
+use Rattle.stack.specs.Held as list
+use Rattle.texts.specs.Held.{bytes_of}
+use Rattle.texts.specs.Parts.{parts}
 use Rattle.cache.specs.declared.recent.Entry.{Entry}
-use Rattle.cache.specs.declared.recent.Recent.{Recent}
 use Rattle.cache.specs.Held.{seen}
-use Rattle.cache.specs.Seen.{moved}
-use Rattle.cache.proofs.Moves.{remembered}
+use Rattle.cache.proofs.Moves.{has_room, put_first, remembered}
 use Rattle.cache.proofs.recent.Recent.remember.Goals as goal
-use Rattle.cache.proofs.recent.Recent.remember.Goals.{then-self-lt-ROOM, else-self-lt-ROOM}
+
+pub unwrap-requires : goal.unwrap-requires
+unwrap-requires c = has_room c.push_front.result _ c.push_front.ensures.refused_only_when_full (omega (arith, ap length c.truncate.ensures.items_after, length-take 63 (list.held c.args.self.now.entries)))
 
 pub returns : goal.returns
 returns c =
-    let s = c.args.self.now in
-    let t = c.if-self-lt-ROOM.self in
-    let entries : t.entries ≡ s.entries =
-    elim c.if-self-lt-ROOM.branch [
-      | then-self-lt-ROOM w ↦ ap (λ (r : Recent). r.entries) w.self-is
-      | else-self-lt-ROOM w ↦ ap (λ (r : Recent). r.entries) w.self-is
-    ] in
-    let way : ((t.count ≡ s.count + 1) × (s.count < 64)) ⊎ ((t.count ≡ 64) × (s.count ≡ 64)) =
-    elim c.if-self-lt-ROOM.branch [
-      | then-self-lt-ROOM w ↦ inl (ap (λ (r : Recent). r.count) w.self-is, w.if-self-lt-ROOM.true)
-      | else-self-lt-ROOM w ↦ inr (ap (λ (r : Recent). r.count) w.self-is ∙ omega arith, omega arith)
-    ] in
-    let e : Entry = record { path = c.args.path; kind = c.args.kind } in
+    let x : Entry = record { path = c.args.path; kind = c.args.kind } in
     record {
       becomes_the_latest =
-          ap (λ (n : ℕ). map seen (take n (set c.to_front.new.self.entries 0 e))) c.to_front.ensures.same_count
-          ∙ remembered _ c.args.kind s.entries c.to_front.new.self.entries s.count t.count e (omega arith) (omega arith) way
-          (c.to_front.ensures.entry_moves_to_the_front ∙ ap (λ (xs : List Entry). moved xs (t.count - 1)) entries)
-          refl
-          c.requires.not_held_yet;
+          ap (map seen) (put_first c.push_front.result _ x _ _ c.unwrap.ensures c.push_front.ensures.items_after ∙ ap (λ (xs : List Entry). x ∷ xs) c.truncate.ensures.items_after)
+          ∙ remembered (parts (bytes_of c.args.path)) c.args.kind (list.held c.args.self.now.entries) x refl c.requires.not_held_yet;
     }

@@ -1,34 +1,24 @@
-use Rattle.std.proofs.Common.{sym, ap, ◌∙◌, arith}
+use Rattle.std.proofs.Common.{sym, ◌∙◌, subst, MatchOption, ◌≡◌, [], rules}
+use borrow.Author.Tests.{tests}
+use Rattle.std.proofs.lemmas.Iterator.{YieldsList-from_slice}
+use Rattle.std.proofs.lemmas.Iterator.Adapters.{position_from-zero}
+use Rattle.std.proofs.lemmas.Iterator.Search.{position_from_yields_List}
+use Rattle.stack.specs.Held.{held}
 use Rattle.listing.specs.Entries.{rows}
-use Rattle.listing.specs.Meanings.{asked, deciding, place_from}
+use Rattle.listing.specs.Meanings.{DecidesAt, asked, deciding, fits, place}
 use Rattle.listing.specs.Rows.{row}
-use Rattle.listing.specs.RowsLemmas.{fits_later, fits_there, length_rows, none_left}
+use Rattle.listing.proofs.Searches.{decides_there, place_is}
 use Rattle.listing.proofs.listing.Listing.deciding_line.Goals as goal
-
-pub returns-then-fits : goal.returns-then-fits
-returns-then-fits c =
-    let s = c.args.self.now in
-    let i = c.loop-i.i in
-    let here = fits_there (rows s) i (row c.line.result.now) c.line.ensures.row_at_the_place (asked c.args.topic c.args.text.now) i (sym c.fits.ensures.fits_what_is_asked ∙ c.if-fits.true) in
-    record {
-      place_of_the_first_that_fits = sym here.0 ∙ c.loop-i.invariant.0;
-      rows_from_there_decide = (omega (arith, length_rows s), sym c.loop-i.invariant.1 ∙ here.1);
-    }
-
-pub loop-i-preserved : goal.loop-i-preserved
-loop-i-preserved c =
-    let s = c.args.self.now in
-    let i = c.loop-i.i in
-    let later = fits_later (rows s) i (row c.line.result.now) c.line.ensures.row_at_the_place (asked c.args.topic c.args.text.now) i (sym c.fits.ensures.fits_what_is_asked ∙ c.if-fits.false) in
-    (sym later.0 ∙ c.loop-i.invariant.0, sym later.1 ∙ c.loop-i.invariant.1)
 
 pub returns : goal.returns
 returns c =
-    let s = c.args.self.now in
-    let i = c.loop-i.i in
+    let ls = held c.args.self.now.lines in
     let q = asked c.args.topic c.args.text.now in
-    let end = none_left s i (omega arith) in
+    let found : c.position.result ≡ place q (rows c.args.self.now) =
+    position_from_yields_List (λ l. fits q (row l)) _ _ _ c.position.ensures.ran (YieldsList-from_slice ls cc) (λ x b p k. search (rules, tests))
+    ∙ position_from-zero (λ l. fits q (row l)) ls
+    ∙ place_is q 0 ls in
     record {
-      place_of_the_first_that_fits = sym (ap (place_from i q) end) ∙ c.loop-i.invariant.0;
-      rows_from_there_decide = sym c.loop-i.invariant.1 ∙ ap (deciding q) end;
+      place_of_the_first_that_fits = found;
+      rows_from_there_decide = subst (λ o. MatchOption o (deciding q (rows c.args.self.now) ≡ []) (DecidesAt q (rows c.args.self.now))) (sym found) (decides_there q (rows c.args.self.now));
     }

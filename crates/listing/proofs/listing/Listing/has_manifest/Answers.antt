@@ -1,16 +1,17 @@
-use Rattle.std.proofs.Common.{sym, ap, ◌∙◌, arith}
-use Rattle.listing.specs.Entries.{has_manifest, rows}
-use Rattle.listing.specs.Rows.{row}
-use Rattle.listing.specs.RowsLemmas.{manifest_later, manifest_there, none_left}
+use Rattle.std.proofs.Common.{◌∙◌, rules}
+use borrow.Author.Tests.{tests}
+use Rattle.std.proofs.lemmas.Iterator.{YieldsList-from_slice}
+use Rattle.std.proofs.lemmas.Iterator.Search.{any_from_yields_List}
+use Rattle.stack.specs.Held.{held}
+use Rattle.listing.specs.Rows.{is_manifest}
+use Rattle.listing.proofs.Searches.{manifest_among}
 use Rattle.listing.proofs.listing.Listing.has_manifest.Goals as goal
 
-pub returns-then-is_manifest : goal.returns-then-is_manifest
-returns-then-is_manifest c =
-    record { manifest_among_the_lines = sym (manifest_there (rows c.args.self.now) c.loop-i.i (row c.line.result.now) c.line.ensures.row_at_the_place (sym c.is_manifest.ensures.manifest_by_its_kind ∙ c.if-is_manifest.true)) ∙ c.loop-i.invariant }
-
-pub loop-i-preserved : goal.loop-i-preserved
-loop-i-preserved c =
-    sym (manifest_later (rows c.args.self.now) c.loop-i.i (row c.line.result.now) c.line.ensures.row_at_the_place (sym c.is_manifest.ensures.manifest_by_its_kind ∙ c.if-is_manifest.false)) ∙ c.loop-i.invariant
-
 pub returns : goal.returns
-returns c = record { manifest_among_the_lines = sym (ap has_manifest (none_left c.args.self.now c.loop-i.i (omega arith))) ∙ c.loop-i.invariant }
+returns c =
+    let ls = held c.args.self.now.lines in
+    record {
+      manifest_among_the_lines =
+          any_from_yields_List (λ l. is_manifest l.kind) _ _ _ c.any.ensures.ran (YieldsList-from_slice ls cc) (λ x b q k. search (rules, tests))
+          ∙ manifest_among ls;
+    }
