@@ -6,8 +6,13 @@ use Rattle.stack.specs.Items.{item_at}
 use Rattle.texts.specs.Texts.{Text}
 use Rattle.paths.specs.Joins.{join, joined, joins}
 use Rattle.settings.specs.Tables.{Tables}
-use Rattle.candidates.specs.Candidates.{Candidate, files, indexes, main_candidates, main_text, overlong}
-use Rattle.candidates.specs.Left.{main_index_left, main_left}
+use Rattle.texts.specs.Parts.{parts}
+use Rattle.tree.specs.Meanings.{Meaning, mains}
+use Rattle.candidates.specs.declared.places.Form.{Form}
+use Rattle.candidates.specs.declared.places.Form.TheVariants.{File, Index}
+use Rattle.candidates.specs.declared.walk.Stage.TheVariants.{Path, Main}
+use Rattle.candidates.specs.Candidates.{Candidate, directory_candidates, files, indexes, main_candidates, main_text, overlong}
+use Rattle.candidates.specs.Left.{behind_main, behind_path, form_candidates, main_index_left, main_left, rank, stage_left}
 use Rattle.candidates.proofs.Placing.{dropped_none, dropped_some}
 
 -- what holds of each item holds of the one at a place
@@ -36,63 +41,81 @@ joined_not a b e = at (joins a b) refl e
     at true j f = absurd (let h : None ≡ Some (join a b) = f in cc)
     at false j f = j
 
-module _ (t : Tables) (fully : Bool) (p : Text) where
-  -- from its first place on, a main text has all its candidates
-  pub main_first : (ms : List Text) → main_left t fully p ms 0 ≡ main_candidates t fully p ms
-  main_first [] = refl
-  main_first (m ∷ ms) = refl
+module _ (t : Tables) (fully : Bool) (p : Text) (m : Meaning) where
+  -- a path in one of the two forms
+  pub path_next : (f : Form) (i : ℕ) (c : Candidate) → Some c ≡ item_at (form_candidates t fully f p) i → stage_left t fully p m (Path f) i ≡ c ∷ stage_left t fully p m (Path f) (i + 1)
+  path_next File i c e = ap (λ (xs : List Candidate). xs ++ directory_candidates t fully m p) (dropped_some (files t fully p) i c e)
+  path_next Index i c e = dropped_some (indexes t fully p) i c e
 
-  module _ (ms : List Text) (k : ℕ) where
-    pub main_gone : None ≡ item_at ms k → (i : ℕ) → (main_left t fully p (drop k ms) i ≡ indexes t fully p) × (main_index_left t fully p (drop k ms) i ≡ indexes t fully p)
-    main_gone e i = let none = dropped_none ms k e in (ap (λ (xs : List Text). main_left t fully p xs i) none, ap (λ (xs : List Text). main_index_left t fully p xs i) none)
+  pub path_done : (f : Form) (i : ℕ) → None ≡ item_at (form_candidates t fully f p) i → stage_left t fully p m (Path f) i ≡ stage_left t fully p m (behind_path f) 0
+  path_done File i e = ap (λ (xs : List Candidate). xs ++ directory_candidates t fully m p) (dropped_none (files t fully p) i e)
+  path_done Index i e = dropped_none (indexes t fully p) i e
+
+  abbrev ms : List Text
+  ms = mains (m.manifest (parts p))
+
+  -- from its first place on, a main text has all its candidates
+  main_first : (xs : List Text) → main_left t fully p xs 0 ≡ main_candidates t fully p xs
+  main_first [] = refl
+  main_first (x ∷ xs) = refl
+
+  module _ (k : ℕ) where
+    pub main_gone : None ≡ item_at ms k → (f : Form) (i : ℕ) → stage_left t fully p m (Main k f) i ≡ indexes t fully p
+    main_gone e File i = ap (λ (xs : List Text). main_left t fully p xs i) (dropped_none ms k e)
+    main_gone e Index i = ap (λ (xs : List Text). main_index_left t fully p xs i) (dropped_none ms k e)
 
     module _ (x : Text) (e : Some x ≡ item_at ms k) where
-      pub main_long : None ≡ joined p (main_text x) → (i : ℕ) → (main_left t fully p (drop k ms) i ≡ overlong ∷ []) × (main_index_left t fully p (drop k ms) i ≡ overlong ∷ [])
-      main_long n i =
-          let here = dropped_some ms k x e in
-          let no = joined_not p (main_text x) n in (
-            ap (λ (xs : List Text). main_left t fully p xs i) here ∙ cond-false _ _ _ no,
-            ap (λ (xs : List Text). main_index_left t fully p xs i) here ∙ cond-false _ _ _ no,
-          )
+      pub main_long : None ≡ joined p (main_text x) → (f : Form) (i : ℕ) → stage_left t fully p m (Main k f) i ≡ overlong ∷ []
+      main_long n File i = ap (λ (xs : List Text). main_left t fully p xs i) (dropped_some ms k x e) ∙ cond-false _ _ _ (joined_not p (main_text x) n)
+      main_long n Index i = ap (λ (xs : List Text). main_index_left t fully p xs i) (dropped_some ms k x e) ∙ cond-false _ _ _ (joined_not p (main_text x) n)
 
       module _ (q : Text) (j : Some q ≡ joined p (main_text x)) where
         abbrev rest : List Candidate
         rest = main_candidates t fully p (drop (k + 1) ms)
 
-        pub main_here : (i : ℕ) → main_left t fully p (drop k ms) i ≡ drop i (files t fully q) ++ (indexes t fully q ++ rest)
+        main_here : (i : ℕ) → main_left t fully p (drop k ms) i ≡ drop i (files t fully q) ++ (indexes t fully q ++ rest)
         main_here i =
             let at = joined_so p (main_text x) q j in
             ap (λ (xs : List Text). main_left t fully p xs i) (dropped_some ms k x e)
             ∙ cond-true _ _ _ at.0
             ∙ (λ z. drop i (files t fully (sym at.1 z)) ++ (indexes t fully (sym at.1 z) ++ rest))
 
-        pub main_index_here : (i : ℕ) → main_index_left t fully p (drop k ms) i ≡ drop i (indexes t fully q) ++ rest
+        main_index_here : (i : ℕ) → main_index_left t fully p (drop k ms) i ≡ drop i (indexes t fully q) ++ rest
         main_index_here i =
             let at = joined_so p (main_text x) q j in
             ap (λ (xs : List Text). main_index_left t fully p xs i) (dropped_some ms k x e)
             ∙ cond-true _ _ _ at.0
             ∙ (λ z. drop i (indexes t fully (sym at.1 z)) ++ rest)
 
-        pub main_next : (i : ℕ) (c : Candidate) → Some c ≡ item_at (files t fully q) i → main_left t fully p (drop k ms) i ≡ c ∷ main_left t fully p (drop k ms) (i + 1)
-        main_next i c f =
+        pub main_next : (f : Form) (i : ℕ) (c : Candidate) → Some c ≡ item_at (form_candidates t fully f q) i → stage_left t fully p m (Main k f) i ≡ c ∷ stage_left t fully p m (Main k f) (i + 1)
+        main_next File i c f =
             main_here i
             ∙ ap (λ (xs : List Candidate). xs ++ (indexes t fully q ++ rest)) (dropped_some (files t fully q) i c f)
             ∙ ap (λ (xs : List Candidate). c ∷ xs) (sym (main_here (i + 1)))
-
-        pub main_done : (i : ℕ) → None ≡ item_at (files t fully q) i → main_left t fully p (drop k ms) i ≡ main_index_left t fully p (drop k ms) 0
-        main_done i f =
-            main_here i
-            ∙ ap (λ (xs : List Candidate). xs ++ (indexes t fully q ++ rest)) (dropped_none (files t fully q) i f)
-            ∙ sym (main_index_here 0)
-
-        pub main_index_next : (i : ℕ) (c : Candidate) → Some c ≡ item_at (indexes t fully q) i → main_index_left t fully p (drop k ms) i ≡ c ∷ main_index_left t fully p (drop k ms) (i + 1)
-        main_index_next i c f =
+        main_next Index i c f =
             main_index_here i
             ∙ ap (λ (xs : List Candidate). xs ++ rest) (dropped_some (indexes t fully q) i c f)
             ∙ ap (λ (xs : List Candidate). c ∷ xs) (sym (main_index_here (i + 1)))
 
-        pub main_index_done : (i : ℕ) → None ≡ item_at (indexes t fully q) i → main_index_left t fully p (drop k ms) i ≡ main_left t fully p (drop (k + 1) ms) 0
-        main_index_done i f =
+        pub main_done : (f : Form) (i : ℕ) → None ≡ item_at (form_candidates t fully f q) i → stage_left t fully p m (Main k f) i ≡ stage_left t fully p m (behind_main k f) 0
+        main_done File i f =
+            main_here i
+            ∙ ap (λ (xs : List Candidate). xs ++ (indexes t fully q ++ rest)) (dropped_none (files t fully q) i f)
+            ∙ sym (main_index_here 0)
+        main_done Index i f =
             main_index_here i
             ∙ ap (λ (xs : List Candidate). xs ++ rest) (dropped_none (indexes t fully q) i f)
             ∙ sym (main_first (drop (k + 1) ms))
+
+-- the stage behind a main text is nearer to the end
+pub behind_path_nearer : (f : Form) → rank (behind_path f) < rank (Path f)
+behind_path_nearer File = omega arith
+behind_path_nearer Index = omega arith
+
+pub main_nearer : (k : ℕ) (f : Form) → k < 255 → (rank (behind_main k f) < rank (Main k f)) × (1 < rank (Main k f))
+main_nearer k File h = (omega arith, omega arith)
+main_nearer k Index h = (omega arith, omega arith)
+
+pub main_rank : (k : ℕ) (f : Form) → 1 < rank (Main k f)
+main_rank k File = omega arith
+main_rank k Index = omega arith

@@ -1,12 +1,8 @@
 -- Candidates by their places. Assumes nothing.
-use Rattle.std.proofs.Common.{◌≡◌, ℕ, zero, suc, ◌+◌, ◌<◌, ◌≤◌, Bool, true, false, cond, List, [], ◌∷◌, ◌++◌, length, drop, Some, None, Option, sym, refl, ap, ◌∙◌, arith}
+use Rattle.std.proofs.Common.{◌≡◌, ℕ, zero, suc, ◌+◌, ◌<◌, ◌≤◌, List, [], ◌∷◌, ◌++◌, length, drop, Some, None, sym, refl, ap, ◌∙◌, arith}
 use Rattle.stack.specs.Items.{item_at}
 use Rattle.stack.proofs.Laws.{item_at_beyond}
-use Rattle.std.proofs.lemmas.Bool.{cond-true, le-leb}
-use Rattle.texts.specs.Texts.{Text, SLASH, buffer_with, length_in, text_in}
-use Rattle.texts.proofs.Buffers.{copied_in}
-use Rattle.paths.specs.Joins.{join, joined, joins}
-use Rattle.paths.proofs.JoinLaws.{join_fits}
+use Rattle.texts.specs.Texts.{Text, SLASH}
 use Rattle.candidates.specs.Candidates.{extended, formed, indexed}
 
 -- the item at a place of two lists, one behind the other
@@ -45,14 +41,6 @@ module _ (p : Text) (es ms more : List Text) (m : Text) (step : ms ≡ m ∷ mor
   indexed_later i n h =
       ap (λ (ns : List Text). item_at (indexed p es ns) i) step
       ∙ item_behind (extended (p ++ (SLASH ∷ m)) es) (indexed p es more) i n (omega (arith, length_extended (p ++ (SLASH ∷ m)) es))
-
--- a text that was joined into a buffer of 255 bytes
-pub joined_in : (a b : Text) (out out' : List ℕ) (r : Option ℕ) → r ≡ length_in (joined a b) (length out) → out' ≡ buffer_with (joined a b) out → length out ≡ 255 → text_in r out' ≡ joined a b
-joined_in a b out out' r e f h = (λ i. text_in (e i) (f i)) ∙ at (joins a b) refl
-  where
-    at : (v : Bool) → joins a b ≡ v → text_in (length_in (cond v (Some (join a b)) None) (length out)) (buffer_with (cond v (Some (join a b)) None) out) ≡ cond v (Some (join a b)) None
-    at true j = copied_in (join a b) out ∙ cond-true _ _ _ (le-leb (length (join a b)) (length out) (omega (arith, join_fits a b j)))
-    at false j = refl
 
 -- what is left of a list from a place on, by the item there
 pub dropped_some : {X : Type 0} (xs : List X) (i : ℕ) (x : X) → Some x ≡ item_at xs i → drop i xs ≡ x ∷ drop (i + 1) xs

@@ -1,60 +1,37 @@
-// Forming the text of a candidate in the caller's buffer.
-ghost use Rattle.std.specs.Prelude.{◌≡◌, ◌≤◌, ◌++◌, Some, length, take};
-ghost use Rattle.texts.specs.Texts.{Text, fronted, length_in, text_in};
-ghost use Rattle.candidates.specs.Answers.{said, within, written_length};
+// Forming the text of a candidate.
+ghost use Rattle.std.specs.Prelude.{◌≡◌, ◌++◌};
+ghost use Rattle.texts.specs.Texts.{Text as Path};
+ghost use Rattle.candidates.specs.Answers.{formed_by};
 ghost use Rattle.candidates.specs.Candidates.{formed};
+ghost use Rattle.candidates.specs.declared.forming.Fault.TheVariants.{TooLong};
 
-use texts::{MAX_LEN, append_text, copy_text};
+use stack::Full;
+use texts::{MAX_LEN, Text};
 
-/// A candidate of a path, or why there is none.
+/// Why nothing more of a path is tried.
 #[derive(Clone, Copy, PartialEq, Eq, Debug)]
-pub enum Candidate {
-    /// A text of so many bytes, at the front of the buffer.
-    Try(usize),
+pub enum Fault {
     /// The manifest of the path is broken.
     BrokenManifest,
     /// A text would pass 255 bytes.
     TooLong,
 }
 
-// A text as a candidate.
-fn hand_out(text: &[u8], out: &mut [u8]) -> Candidate
-    requires at_most_255_bytes { length text.now ≤ 255 }
-    requires room_for_a_text { 255 ≤ length out.old }
-    ensures candidate_of_the_text { (p : Text) → said p out.new result ≡ formed text.now }
-    ensures only_its_text_is_written { out.new ≡ fronted (take (written_length (Some result)) out.new) out.old }
-{
-    match copy_text(text, out) {
-        Some(len) => Candidate::Try(len),
-        None => Candidate::TooLong,
-    }
-}
+impl From<Full> for Fault {
+    ghost from_gives = { λ _ fault. fault ≡ TooLong };
 
-// Three texts, one behind the other.
-fn write_three(text: &mut [u8], path: &[u8], name: &[u8], extension: &[u8]) -> Option<usize>
-    requires room { length text.old ≡ 255 }
-    ensures length_if_it_fits { result ≡ length_in (Some ((path.now ++ name.now) ++ extension.now)) (length text.old) }
-    ensures text_in_front { text_in result text.new ≡ within ((path.now ++ name.now) ++ extension.now) }
-{
-    let len = append_text(text, 0, path)?;
-    let len = append_text(text, len, name)?;
-    append_text(text, len, extension)
+    fn from(_full: Full) -> Fault {
+        Fault::TooLong
+    }
 }
 
 // A path with a name behind it, which may be nothing or has its slash, and an extension.
-pub(crate) fn add_name_and_extension(
-    path: &[u8],
-    name: &[u8],
-    extension: &[u8],
-    out: &mut [u8],
-) -> Candidate
-    requires room_for_a_text { 255 ≤ length out.old }
-    ensures name_and_extension_behind_the_path { (p : Text) → said p out.new result ≡ formed ((path.now ++ name.now) ++ extension.now) }
-    ensures only_its_text_is_written { out.new ≡ fronted (take (written_length (Some result)) out.new) out.old }
+pub(crate) fn form(path: &[u8], name: &[u8], extension: &[u8]) -> Result<Text<MAX_LEN>, Fault>
+    ensures name_and_extension_behind_the_path { (of : Path) → formed_by of result ≡ formed ((path.now ++ name.now) ++ extension.now) }
 {
-    let mut text = [0; MAX_LEN];
-    match write_three(&mut text, path, name, extension) {
-        Some(len) => hand_out(&text[0..len], out),
-        None => Candidate::TooLong,
-    }
+    let mut text = Text::empty();
+    text.push_text(path)?;
+    text.push_text(name)?;
+    text.push_text(extension)?;
+    Ok(text)
 }

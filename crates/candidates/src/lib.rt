@@ -7,7 +7,7 @@ mod places;
 mod samples;
 mod walk;
 
-pub use forming::Candidate;
+pub use forming::Fault;
 pub use inward::is_inward;
 pub use samples::worked_examples_hold;
 pub use walk::Walk;

@@ -14,7 +14,7 @@ returns-then-i-place-clause-extension_at_the_place c =
     let es = map (bytes_of {N = 12}) c.args.extensions.now in
     let here = mapped_from (bytes_of {N = 12}) c.args.extensions.now c.loop-i.i c.index-extensions-i.result c.loop-i-test.true c.index-extensions-i.is in
     λ of.
-    ap Some (c.add_name_and_extension.ensures.name_and_extension_behind_the_path of ∙ ap (λ (t : Text). formed (base ++ t)) c.as_bytes.ensures.bytes_of_the_text)
+    ap Some (c.form.ensures.name_and_extension_behind_the_path of ∙ ap (λ (t : Text). formed (base ++ t)) c.as_bytes.ensures.bytes_of_the_text)
     ∙ sym (extended_at base es _ c.loop-i.i (bytes_of c.index-extensions-i.result) here)
     ∙ ap (item_at (extended base es)) c.if-i-place.true
 

@@ -31,5 +31,4 @@ loop-i-preserved c =
           sym (indexed_later p es (drop c.loop-i.i ns) (drop (c.loop-i.i + 1) ns) _ step c.loop-i.left (c.loop-i.left - length c.args.extensions.now) (omega (arith, length-map c.args.extensions.now (bytes_of {N = 12}))))
           ∙ c.loop-i.invariant.counts_from_here;
       not_beyond = omega arith;
-      nothing_written = c.loop-i.invariant.nothing_written;
     }

@@ -1,49 +1,69 @@
-use Rattle.std.proofs.Common.{◌≡◌, ℕ, ◌-◌, ◌≤◌, List, ◌∷◌, length, take, Some, sym, ap, ◌∙◌, arith}
+use Rattle.std.proofs.Common.{◌<◌, ◌≤◌, List, ◌∷◌, length, sym, ap, ◌∙◌, arith}
 use Rattle.texts.specs.Parts.{parts}
+use Rattle.texts.specs.Held.{bytes_of}
 use Rattle.texts.specs.Texts.{Text}
-use Rattle.paths.specs.Joins.{joined}
+use Rattle.stack.specs.Items.{item_at}
 use Rattle.tree.specs.Meanings.{mains}
 use Rattle.settings.specs.Meant.{tables}
+use Rattle.candidates.specs.declared.walk.Stage.{Stage}
 use Rattle.candidates.specs.declared.walk.Walk.{Walk}
-use Rattle.candidates.specs.Candidates.{Candidate, main_text, overlong}
-use Rattle.candidates.specs.Left.{left}
-use Rattle.candidates.proofs.Mains.{each_at, main_done, main_gone, main_long, main_next}
+use Rattle.candidates.specs.Candidates.{Candidate, overlong}
+use Rattle.candidates.specs.Left.{form_candidates, left, rank, stage_left}
+use Rattle.candidates.proofs.Mains.{each_at, item_within, main_done, main_gone, main_long, main_nearer, main_next}
 use Rattle.candidates.proofs.walk.step_main.Goals as goal
 
 pub returns-in_default-clause-next_or_moved : goal.returns-in_default-clause-next_or_moved
 returns-in_default-clause-next_or_moved g c =
-    let ms = mains ((g.H.FileTree.meaning c.args.host.now).manifest (parts c.args.path.now)) in
-    (main_gone (tables c.args.settings.now) c.args.fully_specified c.args.path.now ms c.args.main c.in_default.ensures.main_text_in_its_place c.args.place).0
-    ∙ sym (ap (λ (w : Walk). left (tables c.args.settings.now) c.args.fully_specified c.args.path.now (g.H.FileTree.meaning c.args.host.now) w) c.begin.ensures.first_place_of_the_stage)
+    let s = c.args.sought.now in
+    let t = tables s.settings.now in
+    let m = g.H.FileTree.meaning c.args.host.now in
+    main_gone t s.fully_specified s.path.now m c.args.main c.in_default.ensures.main_text_in_its_place c.args.form c.args.place
+    ∙ sym (ap (λ (w : Walk). left t s.fully_specified s.path.now m w) c.begin.ensures.first_place_of_the_stage)
 
-pub join_main-requires-clause-short_main_text : goal.join_main-requires-clause-short_main_text
-join_main-requires-clause-short_main_text g c =
+pub join_main-requires : goal.join_main-requires
+join_main-requires g c =
     let proper = g.met.H.FileTree.proper c.args.host.now c.requires.sound in
-    each_at (λ (t : Text). length t ≤ 32) (mains ((g.H.FileTree.meaning c.args.host.now).manifest (parts c.args.path.now))) c.args.main c.in-Some.text.now (proper.short_mains (parts c.args.path.now)) c.in-Some.ensures.main_text_in_its_place
+    let path = parts c.args.sought.now.path.now in
+    record { short_main_text = each_at (λ (t : Text). length t ≤ 32) (mains ((g.H.FileTree.meaning c.args.host.now).manifest path)) c.args.main c.in-Some.text.now (proper.short_mains path) c.in-Some.ensures.main_text_in_its_place }
 
 pub returns-in_default-join_main-clause-next_or_moved : goal.returns-in_default-join_main-clause-next_or_moved
 returns-in_default-join_main-clause-next_or_moved g c =
-    let ms = mains ((g.H.FileTree.meaning c.args.host.now).manifest (parts c.args.path.now)) in
-    (main_long (tables c.args.settings.now) c.args.fully_specified c.args.path.now ms c.args.main c.in-Some.text.now c.in-Some.ensures.main_text_in_its_place c.in_default-join_main.ensures.joined_to_the_path c.args.place).0
-    ∙ ap (λ (cs : List Candidate). overlong ∷ cs) (sym (ap (λ (w : Walk). left (tables c.args.settings.now) c.args.fully_specified c.args.path.now (g.H.FileTree.meaning c.args.host.now) w) c.begin-in_default-join_main.ensures.first_place_of_the_stage))
+    let s = c.args.sought.now in
+    let t = tables s.settings.now in
+    let m = g.H.FileTree.meaning c.args.host.now in
+    main_long t s.fully_specified s.path.now m c.args.main c.in-Some.text.now c.in-Some.ensures.main_text_in_its_place c.in_default-join_main.ensures.joined_to_the_path c.args.form c.args.place
+    ∙ ap (λ (cs : List Candidate). overlong ∷ cs) (sym (ap (λ (w : Walk). left t s.fully_specified s.path.now m w) c.begin-in_default-join_main.ensures.first_place_of_the_stage))
 
-pub returns-in-Some-file_candidate-clause-next_or_moved : goal.returns-in-Some-file_candidate-clause-next_or_moved
-returns-in-Some-file_candidate-clause-next_or_moved g c =
-    let ms = mains ((g.H.FileTree.meaning c.args.host.now).manifest (parts c.args.path.now)) in
-    let text = c.join_main.new.text in
-    let len = c.in-Some-join_main.len in
-    let whole : len ≡ len - 0 = omega arith in
-    let q = take (len - 0) text in
-    let made : Some q ≡ joined c.args.path.now (main_text c.in-Some.text.now) = ap (λ (n : ℕ). Some (take n text)) (sym whole) ∙ c.in-Some-join_main.ensures.joined_to_the_path in
-    main_next (tables c.args.settings.now) c.args.fully_specified c.args.path.now ms c.args.main c.in-Some.text.now c.in-Some.ensures.main_text_in_its_place q made c.args.place _ (c.in-Some-file_candidate.ensures.file_at_the_place c.args.path.now)
+pub behind_main-requires : goal.behind_main-requires
+behind_main-requires g c =
+    let proper = g.met.H.FileTree.proper c.args.host.now c.requires.sound in
+    let path = parts c.args.sought.now.path.now in
+    record { few_main_texts = omega (arith, proper.few_mains path, item_within (mains ((g.H.FileTree.meaning c.args.host.now).manifest path)) c.args.main c.in-Some.text.now c.in-Some.ensures.main_text_in_its_place) }
+
+pub returns-in-Some-candidate-clause-next_or_moved : goal.returns-in-Some-candidate-clause-next_or_moved
+returns-in-Some-candidate-clause-next_or_moved g c =
+    let s = c.args.sought.now in
+    let t = tables s.settings.now in
+    let m = g.H.FileTree.meaning c.args.host.now in
+    main_next t s.fully_specified s.path.now m c.args.main c.in-Some.text.now c.in-Some.ensures.main_text_in_its_place
+    (bytes_of c.in-Some-join_main.joined) c.in-Some-join_main.ensures.joined_to_the_path c.args.form c.args.place _
+    (c.in-Some-candidate.ensures.candidate_at_the_place s.path.now ∙ ap (λ (q : Text). item_at (form_candidates t s.fully_specified c.args.form q) c.args.place) c.as_bytes.ensures.bytes_of_the_text)
 
 pub returns-in-None-clause-next_or_moved : goal.returns-in-None-clause-next_or_moved
 returns-in-None-clause-next_or_moved g c =
-    let ms = mains ((g.H.FileTree.meaning c.args.host.now).manifest (parts c.args.path.now)) in
-    let text = c.join_main.new.text in
-    let len = c.in-Some-join_main.len in
-    let whole : len ≡ len - 0 = omega arith in
-    let q = take (len - 0) text in
-    let made : Some q ≡ joined c.args.path.now (main_text c.in-Some.text.now) = ap (λ (n : ℕ). Some (take n text)) (sym whole) ∙ c.in-Some-join_main.ensures.joined_to_the_path in
-    main_done (tables c.args.settings.now) c.args.fully_specified c.args.path.now ms c.args.main c.in-Some.text.now c.in-Some.ensures.main_text_in_its_place q made c.args.place (c.in-None.ensures.file_at_the_place c.args.path.now)
-    ∙ sym (ap (λ (w : Walk). left (tables c.args.settings.now) c.args.fully_specified c.args.path.now (g.H.FileTree.meaning c.args.host.now) w) c.begin-in-None.ensures.first_place_of_the_stage)
+    let s = c.args.sought.now in
+    let t = tables s.settings.now in
+    let m = g.H.FileTree.meaning c.args.host.now in
+    main_done t s.fully_specified s.path.now m c.args.main c.in-Some.text.now c.in-Some.ensures.main_text_in_its_place
+    (bytes_of c.in-Some-join_main.joined) c.in-Some-join_main.ensures.joined_to_the_path c.args.form c.args.place
+    (c.in-None.ensures.candidate_at_the_place s.path.now ∙ ap (λ (q : Text). item_at (form_candidates t s.fully_specified c.args.form q) c.args.place) c.as_bytes.ensures.bytes_of_the_text)
+    ∙ ap (λ (h : Stage). stage_left t s.fully_specified s.path.now m h 0) (sym c.behind_main.ensures.main_files_or_the_next_main_text)
+    ∙ sym (ap (λ (w : Walk). left t s.fully_specified s.path.now m w) c.begin-in-None.ensures.first_place_of_the_stage)
+
+pub returns-in-None-clause-nearer_to_the_end : goal.returns-in-None-clause-nearer_to_the_end
+returns-in-None-clause-nearer_to_the_end g c =
+    let proper = g.met.H.FileTree.proper c.args.host.now c.requires.sound in
+    let path = parts c.args.sought.now.path.now in
+    let few : c.args.main < 255 = omega (arith, proper.few_mains path, item_within (mains ((g.H.FileTree.meaning c.args.host.now).manifest path)) c.args.main c.in-Some.text.now c.in-Some.ensures.main_text_in_its_place) in
+    let r = ap (λ (w : Walk). rank w.stage) c.begin-in-None.ensures.first_place_of_the_stage ∙ ap rank c.behind_main.ensures.main_files_or_the_next_main_text in
+    λ e. omega (arith, r, (main_nearer c.args.main c.args.form few).0)

@@ -1,23 +1,35 @@
-use Rattle.std.proofs.Common.{◌≡◌, Bool, true, false, cond, refl, ap, ◌∙◌}
+use Rattle.std.proofs.Common.{◌≡◌, Bool, true, false, refl, sym, ap, ◌∙◌}
 use Rattle.texts.specs.Texts.{Text}
 use Rattle.tree.specs.Meanings.{Meaning}
 use Rattle.settings.specs.Tables.{Tables}
-use Rattle.candidates.specs.declared.walk.Stage.{Stage}
-use Rattle.candidates.specs.declared.walk.Stage.TheVariants.{Directory, File}
+use Rattle.candidates.specs.declared.places.Form.TheVariants.{File}
+use Rattle.candidates.specs.declared.walk.Stage.TheVariants.{Directory, Path}
 use Rattle.candidates.specs.declared.walk.Walk.{Walk}
 use Rattle.candidates.specs.Candidates.{candidates}
 use Rattle.candidates.specs.Left.{left, stage_left}
 use Rattle.candidates.proofs.walk.Walk.new.Goals as goal
 
-all_left : (t : Tables) (fully : Bool) (path : Text) (m : Meaning) (inside : Bool) → stage_left t fully path m (cond inside Directory File) 0 ≡ candidates t fully m inside path
-unfolding candidates
-all_left t fully path m true = refl
-all_left t fully path m false = refl
+module _ (t : Tables) (fully : Bool) (path : Text) (m : Meaning) where
+  inside_left : stage_left t fully path m Directory 0 ≡ candidates t fully m true path
+  unfolding candidates
+  inside_left = refl
 
-pub returns : goal.returns
-returns c = record {
+  all_left : stage_left t fully path m (Path File) 0 ≡ candidates t fully m false path
+  unfolding candidates
+  all_left = refl
+
+pub returns-then-inside : goal.returns-then-inside
+returns-then-inside c = record {
   every_candidate_is_left = λ t fully path m.
       ap (λ (w : Walk). left t fully path m w) c.begin.ensures.first_place_of_the_stage
-      ∙ ap (λ (s : Stage). stage_left t fully path m s 0) c.first_stage.ensures.path_as_a_file_unless_inside
-      ∙ all_left t fully path m c.args.inside;
+      ∙ inside_left t fully path m
+      ∙ ap (λ (b : Bool). candidates t fully m b path) (sym c.if-inside.true);
+}
+
+pub returns-else-inside : goal.returns-else-inside
+returns-else-inside c = record {
+  every_candidate_is_left = λ t fully path m.
+      ap (λ (w : Walk). left t fully path m w) c.begin-else-inside.ensures.first_place_of_the_stage
+      ∙ all_left t fully path m
+      ∙ ap (λ (b : Bool). candidates t fully m b path) (sym c.if-inside.false);
 }

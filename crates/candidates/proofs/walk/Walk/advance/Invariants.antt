@@ -1,15 +1,14 @@
 use Rattle.std.proofs.Common.{◌≡◌}
 use Rattle.settings.specs.Meant.{tables}
 use Rattle.candidates.specs.Left.{left, rank}
-use Rattle.candidates.proofs.walk.Walk.next.Given as goal
+use Rattle.candidates.proofs.walk.Walk.advance.Given as goal
 
--- As much is left as at first, and nothing was written.
+-- As much is left as at first.
 abbrev pub invariant-loop-host : goal.invariant-loop-host
 invariant-loop-host g l = record {
   sound : g.H.FileTree.sound l.host;
   same_meaning : g.H.FileTree.meaning l.host ≡ g.H.FileTree.meaning l.initial.host;
-  nothing_written : l.out ≡ l.initial.out;
-  as_much_left : left (tables l.settings) l.fully_specified l.path (g.H.FileTree.meaning l.initial.host) l.self ≡ left (tables l.settings) l.fully_specified l.path (g.H.FileTree.meaning l.initial.host) l.initial.self;
+  as_much_left : left (tables l.sought.settings.now) l.sought.fully_specified l.sought.path.now (g.H.FileTree.meaning l.initial.host) l.self ≡ left (tables l.sought.settings.now) l.sought.fully_specified l.sought.path.now (g.H.FileTree.meaning l.initial.host) l.initial.self;
 }
 
 abbrev pub decreases-loop-host : goal.decreases-loop-host
