@@ -1,7 +1,6 @@
 // A layer over two hosts: the second answers below a path, the first everywhere else.
 #![tactic(auto)]
 
-mod below;
 mod layer;
 
 pub use layer::Mount;

@@ -19,6 +19,7 @@ fn passes_restrictions(restrictions: &[Text<255>], path: &[u8]) -> bool
 }
 
 /// Whether `path` is acceptable: it is a file, the policy allows it, and every restriction has exactly its bytes. The tree is asked once, and first.
+#[tactic(auto, unfolding(crate::specs::Acceptances::acceptable))]
 pub fn is_acceptable<T: FileTree, P: Policy>(
     tree: &mut T,
     policy: &P,
@@ -31,8 +32,5 @@ pub fn is_acceptable<T: FileTree, P: Policy>(
     ensures still_sound { T.FileTree.sound tree.new }
     ensures asked_once { T.FileTree.steps tree.old (kind_of path.now) tree.new }
 {
-    match tree.kind(path) {
-        Kind::File => policy.allows(path) && passes_restrictions(restrictions, path),
-        Kind::Nothing | Kind::Directory => false,
-    }
+    tree.kind(path) == Kind::File && policy.allows(path) && passes_restrictions(restrictions, path)
 }

@@ -1,5 +1,5 @@
 // Each question goes to one side, by the path or by the directory.
-ghost use Rattle.std.specs.Prelude.{◌≡◌, ◌≤◌, true, false, length, is_ok, MatchResult};
+ghost use Rattle.std.specs.Prelude.{◌≡◌, length, is_ok, MatchResult};
 ghost use Rattle.texts.specs.Held.{bytes_of};
 ghost use Rattle.texts.specs.Parts.{parts};
 ghost use Rattle.texts.specs.Texts.{buffer_with};
@@ -7,37 +7,30 @@ ghost use Rattle.tree.specs.Meanings.{answered, found, path_found};
 ghost use Rattle.mount.specs.Mounts.{Routed, in_front, mountable, mounted};
 ghost use Rattle.mount.specs.Placed.{mounted_proper};
 
-use crate::below::below;
-use crate::layer::Mount;
-use texts::{Text, append_text, copy_text, is_clean};
-use tree::{FileTree, Host, Kind, Lookup, Manifest, Way};
+use crate::layer::{MAX_AT, Mount};
+use texts::{MAX_LEN, Text, copy_text, is_clean};
+use tree::{Broken, FileTree, Host, Kind, Manifest, Way};
 
-const LEAST: usize = 2;
+// The shortest path that a host can be mounted at, in bytes.
+const MIN_AT: usize = 2;
 
 // Whether a host can be mounted at `at`.
+#[tactic(auto, unfolding(crate::specs::Mounts::mountable))]
 fn is_mountable(at: &[u8]) -> bool
     ensures clean_with_2_to_16_bytes { result ≡ mountable at.now }
 {
-    is_clean(at) && at.len() >= LEAST && at.len() <= 16
+    is_clean(at) && (MIN_AT..=MAX_AT).contains(&at.len())
 }
 
-// The path that was found with the mount in front of it, at the front of `out`; past 255 bytes it is missing.
-fn put_in_front(at: &[u8], path: &[u8], out: &mut [u8]) -> Lookup
-    requires { length path.now ≤ 255 }
-    ensures found_if_the_whole_path_fits { result ≡ answered (in_front at.now (found path.now)) (length out.old) }
+// The path that was found with the mount in front of it, at the front of `out`; past 255 bytes there is none.
+fn put_in_front(at: &[u8], path: &[u8], out: &mut [u8]) -> Option<usize>
+    ensures found_if_the_whole_path_fits { Ok result ≡ answered (in_front at.now (found path.now)) (length out.old) }
     ensures path_in_front { out.new ≡ buffer_with (path_found (in_front at.now (found path.now))) out.old }
 {
-    let mut whole = [0; 255];
-    let Some(len) = copy_text(at, &mut whole) else {
-        return Lookup::Missing;
-    };
-    let Some(len) = append_text(&mut whole, len, path) else {
-        return Lookup::Missing;
-    };
-    match copy_text(&whole[0..len], out) {
-        Some(len) => Lookup::Found(len),
-        None => Lookup::Missing,
-    }
+    let mut whole: Text<MAX_LEN> = Text::empty();
+    whole.push_text(at).ok()?;
+    whole.push_text(path).ok()?;
+    copy_text(whole.as_bytes(), out)
 }
 
 impl<A: FileTree, B: FileTree> Mount<A, B> {
@@ -51,9 +44,7 @@ impl<A: FileTree, B: FileTree> Mount<A, B> {
         if !is_mountable(at) {
             return Err((first, second));
         }
-        let Some(at) = Text::new(at) else {
-            return Err((first, second));
-        };
+        let at = Text::new(at).unwrap();
         Ok(Mount { first, second, at })
     }
 }
@@ -68,7 +59,7 @@ impl<A: FileTree, B: FileTree> FileTree for Mount<A, B> {
     ghost proper = { λ s h. mounted_proper _ _ _ s.placed (A.FileTree.proper s.first h.0) (B.FileTree.proper s.second h.1) };
 
     fn kind(&mut self, path: &[u8]) -> Kind {
-        match below(self.at.as_bytes(), path) {
+        match self.below(path) {
             Some(rest) => self.second.kind(rest),
             None => self.first.kind(path),
         }
@@ -76,30 +67,35 @@ impl<A: FileTree, B: FileTree> FileTree for Mount<A, B> {
 }
 
 impl<A: Host, B: Host> Host for Mount<A, B> {
-    fn manifest(&mut self, path: &[u8]) -> Manifest {
-        match below(self.at.as_bytes(), path) {
+    fn manifest(&mut self, path: &[u8]) -> Result<Option<Manifest>, Broken> {
+        match self.below(path) {
             Some(rest) => self.second.manifest(rest),
             None => self.first.manifest(path),
         }
     }
 
     fn main_text(&self, path: &[u8], i: usize) -> Option<&[u8]> {
-        match below(self.at.as_bytes(), path) {
+        match self.below(path) {
             Some(rest) => self.second.main_text(rest, i),
             None => self.first.main_text(path, i),
         }
     }
 
-    fn lookup(&mut self, way: Way, request: &[u8], directory: &[u8], out: &mut [u8]) -> Lookup {
-        let Some(rest) = below(self.at.as_bytes(), directory) else {
+    fn lookup(
+        &mut self,
+        way: Way,
+        request: &[u8],
+        directory: &[u8],
+        out: &mut [u8],
+    ) -> Result<Option<usize>, Broken> {
+        let Some(rest) = self.below(directory) else {
             return self.first.lookup(way, request, directory, out);
         };
-        let mut path = [0; 255];
-        match self.second.lookup(way, request, rest, &mut path) {
-            Lookup::Found(len) => put_in_front(self.at.as_bytes(), &path[0..len], out),
-            Lookup::Missing => Lookup::Missing,
-            Lookup::Broken => Lookup::Broken,
-        }
+        let mut path = [0; MAX_LEN];
+        let Some(len) = self.second.lookup(way, request, rest, &mut path)? else {
+            return Ok(None);
+        };
+        Ok(put_in_front(self.at.as_bytes(), &path[..len], out))
     }
 
     fn forget(&mut self) {
