@@ -1,5 +1,5 @@
 -- What one line in front of the first question does to the listing and the settings. Assumes nothing.
-use Rattle.std.specs.Prelude.{Bool, false, cond, ◌||◌, ◌==◌, List, is_some, Some, None, Ok, Err, Option, Result}
+use Rattle.std.specs.Prelude.{Bool, false, cond, ◌||◌, ◌==◌, List, is_some, Some, None, Option}
 use Rattle.std.specs.Option.{option_map}
 use Rattle.texts.specs.Texts.{Text}
 use Rattle.lines.specs.declared.Head.{Head}
@@ -40,8 +40,3 @@ front_rows rs line = cond (sets (head_of line)) rs (listed_with rs (content_of l
 -- the tables after a line in front
 abbrev pub front_tables : Tables → Text → Tables
 front_tables t line = cond (sets (head_of line)) (line_after t (offer_of line)) t
-
--- what is returned
-abbrev pub taken_unless : Option Cause → Result Unit Cause
-taken_unless None = Ok tt
-taken_unless (Some why) = Err why

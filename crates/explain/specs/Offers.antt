@@ -1,5 +1,5 @@
 -- What becomes of the candidates of a path. Assumes nothing.
-use Rattle.std.specs.Prelude.{Bool, true, false, cond, not, ◌&&◌, List, [], ◌∷◌, ◌++◌, codes}
+use Rattle.std.specs.Prelude.{Bool, true, false, cond, not, ◌&&◌, List, [], ◌∷◌, ◌++◌, codes, Ok, Err, Result}
 use Rattle.lines.specs.Sheets.{LINE_END}
 use Rattle.texts.specs.Held.{bytes_of}
 use Rattle.texts.specs.Parts.{parts}
@@ -11,7 +11,8 @@ use Rattle.tree.specs.Meanings.{Meaning}
 use Rattle.candidates.specs.Candidates.{Candidate, broken_at, overlong, try}
 use Rattle.explain.specs.Legible.{legible, phrase}
 use Rattle.explain.specs.declared.offer.Offer.{Offer}
-use Rattle.explain.specs.declared.offer.Offer.TheVariants as offer
+use Rattle.candidates.specs.declared.forming.Fault.{Fault}
+use Rattle.candidates.specs.declared.forming.Fault.TheVariants.{BrokenManifest, TooLong}
 use Rattle.explain.specs.declared.offer.Verdict.{Verdict}
 use Rattle.explain.specs.declared.offer.Verdict.TheVariants.{Nothing, Directory, Forbidden, Restricted, Acceptable}
 
@@ -48,11 +49,11 @@ judged m allowed restrictions (try t) = tried t (verdict_of m allowed restrictio
 judged m allowed restrictions (broken_at p) = broken p
 judged m allowed restrictions overlong = too_long
 
--- what an offer of a path says
-abbrev pub shown : Text → Offer → Judged
-shown path (offer.Try t v) = tried (bytes_of t) v
-shown path offer.BrokenManifest = broken path
-shown path offer.TooLong = too_long
+-- what an offer of a path says, or why there is none
+abbrev pub shown : Text → Result Offer Fault → Judged
+shown path (Ok o) = tried (bytes_of o.text) o.verdict
+shown path (Err BrokenManifest) = broken path
+shown path (Err TooLong) = too_long
 
 -- what becomes of a candidate, in words
 abbrev pub verdict_words : Verdict → Text

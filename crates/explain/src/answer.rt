@@ -8,7 +8,7 @@ ghost use Rattle.explain.specs.Answers.{answer_of, found_by, heard};
 use crate::reading::Reading;
 use specifier::Branch;
 use texts::Text;
-use tree::{FileTree, Host, Kind, Lookup, Way};
+use tree::{Broken, FileTree, Host, Kind, Way};
 
 /// The kind of the path that is looked for, or where the lookup leads.
 #[derive(Clone, Copy)]
@@ -29,12 +29,12 @@ fn look_up<H: Host>(host: &mut H, way: Way, request: &[u8], directory: &[u8]) ->
 {
     let mut bytes = [0; 255];
     match host.lookup(way, request, directory, &mut bytes) {
-        Lookup::Found(len) => match Text::new(&bytes[0..len]) {
+        Ok(Some(len)) => match Text::new(&bytes[0..len]) {
             Some(path) => Answer::Found(path),
             None => Answer::Missing,
         },
-        Lookup::Missing => Answer::Missing,
-        Lookup::Broken => Answer::Broken,
+        Ok(None) => Answer::Missing,
+        Err(Broken) => Answer::Broken,
     }
 }
 

@@ -1,5 +1,6 @@
 // Why a line of a sheet is refused, be it a question, a line of the listing or one of the settings.
 ghost use Rattle.std.specs.Prelude.{◌≡◌};
+ghost use Rattle.explain.specs.declared.cause.Cause.TheVariants.{Listing, Question, Setting};
 ghost use Rattle.explain.specs.Causes.{cause_number, cause_words, listing_words, question_words, settings_words};
 
 use crate::refusal::Refusal;
@@ -50,6 +51,30 @@ fn settings_reason(refusal: settings::Refusal) -> &'static str
             "the text has not the form of its kind, or there is no such flag or setting of it",
         settings::Refusal::ValueBeforeLabel => "no label stands before the value",
         settings::Refusal::Kind => "its columns or its kind are not those of a line",
+    }
+}
+
+impl From<Refusal> for Cause {
+    ghost from_gives = { λ refusal cause. cause ≡ Question refusal };
+
+    fn from(refusal: Refusal) -> Cause {
+        Cause::Question(refusal)
+    }
+}
+
+impl From<listing::Refusal> for Cause {
+    ghost from_gives = { λ refusal cause. cause ≡ Listing refusal };
+
+    fn from(refusal: listing::Refusal) -> Cause {
+        Cause::Listing(refusal)
+    }
+}
+
+impl From<settings::Refusal> for Cause {
+    ghost from_gives = { λ refusal cause. cause ≡ Setting refusal };
+
+    fn from(refusal: settings::Refusal) -> Cause {
+        Cause::Setting(refusal)
     }
 }
 

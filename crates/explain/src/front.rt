@@ -4,7 +4,8 @@ ghost use Rattle.lines.specs.Sheets.{content_of, head_of};
 ghost use Rattle.listing.specs.Entries.{rows};
 ghost use Rattle.settings.specs.Meant.{tables};
 ghost use Rattle.explain.specs.Filling.{filled_by, front_of, noted, noting};
-ghost use Rattle.explain.specs.FrontLine.{front_cause, front_rows, front_tables, listed_with, listing_cause, sets, taken_unless};
+ghost use Rattle.explain.specs.FrontLine.{front_cause, front_rows, front_tables, listed_with, listing_cause, sets};
+ghost use Rattle.texts.specs.Taken.{taken_unless};
 
 use crate::cause::Cause;
 use crate::question::Question;
@@ -33,13 +34,9 @@ fn list(listing: &mut Listing, line: &[u8]) -> Result<(), Cause>
     ensures taken_or_refused { result ≡ taken_unless (listing_cause (rows listing.old) (content_of line.now)) }
     ensures rows_then { rows listing.new ≡ listed_with (rows listing.old) (content_of line.now) }
 {
-    let Ok(content) = Line::read(line) else {
-        return Err(Cause::Question(Refusal::Line));
-    };
-    match listing.add(content.kind, content.first, content.second) {
-        Ok(()) => Ok(()),
-        Err(refusal) => Err(Cause::Listing(refusal)),
-    }
+    let content = Line::read(line).map_err(Refusal::from)?;
+    listing.add(content.kind, content.first, content.second)?;
+    Ok(())
 }
 
 // Takes a line into the settings if it is one of theirs, else into the listing, or says why not.
@@ -51,10 +48,8 @@ fn take(listing: &mut Listing, settings: &mut Settings, line: &[u8]) -> Result<(
     if !is_setting(line) {
         return list(listing, line);
     }
-    match settings.load(line) {
-        Ok(()) => Ok(()),
-        Err(refusal) => Err(Cause::Setting(refusal)),
-    }
+    settings.load(line)?;
+    Ok(())
 }
 
 // Notes that a line is refused, if it is.

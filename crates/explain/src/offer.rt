@@ -9,7 +9,7 @@ ghost use Rattle.candidates.specs.Answers.{said};
 ghost use Rattle.explain.specs.Offers.{judged, passes, shown, verdict_of};
 
 use crate::trial::held;
-use candidates::{Candidate, Walk};
+use candidates::{Fault, Walk};
 use settings::Settings;
 use std::alloc::{AllocError, Global};
 use texts::{Place, Text};
@@ -27,12 +27,11 @@ pub enum Verdict {
     Acceptable,
 }
 
-/// A candidate with its verdict, or why there is none.
+/// A candidate with its verdict.
 #[derive(Clone, Copy)]
-pub enum Offer {
-    Try(Text<255>, Verdict),
-    BrokenManifest,
-    TooLong,
+pub struct Offer {
+    pub text: Text<255>,
+    pub verdict: Verdict,
 }
 
 // What becomes of a path.
@@ -69,24 +68,19 @@ fn judge<T: FileTree, P: Policy>(
     tree: &mut T,
     policy: &P,
     restrictions: &[Text<255>],
-    candidate: Candidate,
+    candidate: Result<usize, Fault>,
     out: &[u8],
-) -> Offer
+) -> Result<Offer, Fault>
     requires sound { T.FileTree.sound tree.old }
     requires room_for_one_text { length out.now ≡ 255 }
     ensures judged_by_definition { (path : Bytes) → shown path result ≡ judged (T.FileTree.meaning tree.old) (P.Policy.allowed policy.now) (map bytes_of restrictions.now) (said path out.now candidate) }
     ensures same_meaning { T.FileTree.meaning tree.new ≡ T.FileTree.meaning tree.old }
     ensures still_sound { T.FileTree.sound tree.new }
 {
-    match candidate {
-        Candidate::Try(len) => {
-            let text = held(Place { start: 0, len }.of(out));
-            let verdict = verdict_on(tree, policy, restrictions, text.as_bytes());
-            Offer::Try(text, verdict)
-        }
-        Candidate::BrokenManifest => Offer::BrokenManifest,
-        Candidate::TooLong => Offer::TooLong,
-    }
+    let len = candidate?;
+    let text = held(Place { start: 0, len }.of(out));
+    let verdict = verdict_on(tree, policy, restrictions, text.as_bytes());
+    Ok(Offer { text, verdict })
 }
 
 /// All candidates of a path, in their order, each with its verdict.
@@ -97,7 +91,7 @@ pub fn offers<H: Host, P: Policy>(
     settings: &Settings,
     inside: bool,
     path: &[u8],
-) -> Result<Vec<Offer>, AllocError>
+) -> Result<Vec<Result<Offer, Fault>>, AllocError>
     requires sound { H.FileTree.sound host.old }
     ensures every_candidate_with_its_verdict { IfOk result (λ v. map (shown path.now) v.items ≡ map (judged (H.FileTree.meaning host.old) (P.Policy.allowed policy.now) (tables settings.now).restrictions) (candidates (tables settings.now) (tables settings.now).fully_specified (H.FileTree.meaning host.old) inside path.now)) }
     ensures same_meaning { H.FileTree.meaning host.new ≡ H.FileTree.meaning host.old }

@@ -20,13 +20,14 @@ impl<'a> Question<'a> {
     pub fn read(line: &'a [u8]) -> Result<Question<'a>, Refusal>
         ensures question_in_the_line { result_map_both asked (λ e. e) result ≡ question_of line.now }
     {
-        match Line::read(line) {
-            Ok(line) if line.kind == ASKS => Ok(Question {
-                directory: line.first,
-                request: line.second,
-            }),
-            _ => Err(Refusal::Line),
+        let line = Line::read(line)?;
+        if line.kind != ASKS {
+            return Err(Refusal::Line);
         }
+        Ok(Question {
+            directory: line.first,
+            request: line.second,
+        })
     }
 
     /// The text that a refusal is about.

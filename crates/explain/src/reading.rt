@@ -10,7 +10,8 @@ ghost use Rattle.explain.specs.Readings.{PathsAreSought, fragment_first, meant, 
 
 use crate::refusal::Refusal;
 use specifier::{Branch, Specifier, is_directory, is_request, write_sought_path};
-use texts::{Text, append_text, copy_text};
+use stack::Full;
+use texts::Text;
 
 /// A request taken apart, its path without escapes, the way it goes and the path that it looks for.
 #[derive(Clone, Copy)]
@@ -51,12 +52,8 @@ impl Reading {
         if !is_request(request) {
             return Err(Refusal::Request);
         }
-        let Ok(specifier) = Specifier::parse(request) else {
-            return Err(Refusal::Empty);
-        };
-        let Some(path) = path_of(specifier, request) else {
-            return Err(Refusal::TooLong);
-        };
+        let specifier = Specifier::parse(request)?;
+        let path = path_of(specifier, request).ok_or(Refusal::TooLong)?;
         let branch = Branch::of(path.as_bytes());
         let sought = sought(directory, path.as_bytes());
         Ok(Reading {
@@ -75,9 +72,10 @@ impl Reading {
             return None;
         }
         let fragment = self.specifier.fragment?;
-        let mut bytes = [0; 255];
-        let len = copy_text(self.path.as_bytes(), &mut bytes)?;
-        let len = append_text(&mut bytes, len, fragment.of(request))?;
-        Text::new(&bytes[0..len])
+        let mut text = self.path;
+        match text.push_text(fragment.of(request)) {
+            Ok(()) => Some(text),
+            Err(Full) => None,
+        }
     }
 }

@@ -1,19 +1,22 @@
 // Why a line is refused.
 ghost use Rattle.std.specs.Prelude.{◌≡◌};
 ghost use Rattle.explain.specs.Refusals.{number_of};
+ghost use Rattle.explain.specs.declared.refusal.Refusal.TheVariants.{Empty, Line};
+
+use specifier::SpecifierError;
 
 #[derive(Clone, Copy, PartialEq, Eq, Debug)]
 pub enum Refusal {
     // its columns or its kind are not those of a line
-    Line,
+    Line = 15,
     // no lookup can start from the directory
-    Directory,
+    Directory = 2,
     // the request is not looked up
-    Request,
+    Request = 20,
     // the request has no path
-    Empty,
+    Empty = 21,
     // a text on the way has more than 255 bytes
-    TooLong,
+    TooLong = 28,
 }
 
 impl Refusal {
@@ -21,12 +24,22 @@ impl Refusal {
     pub fn number(self) -> u8
         ensures number_in_the_list { result ≡ number_of self }
     {
-        match self {
-            Refusal::Line => 15,
-            Refusal::Directory => 2,
-            Refusal::Request => 20,
-            Refusal::Empty => 21,
-            Refusal::TooLong => 28,
-        }
+        self as u8
+    }
+}
+
+impl From<lines::Refusal> for Refusal {
+    ghost from_gives = { λ _ r. r ≡ Line };
+
+    fn from(_refusal: lines::Refusal) -> Refusal {
+        Refusal::Line
+    }
+}
+
+impl From<SpecifierError> for Refusal {
+    ghost from_gives = { λ _ r. r ≡ Empty };
+
+    fn from(_error: SpecifierError) -> Refusal {
+        Refusal::Empty
     }
 }

@@ -8,7 +8,7 @@ use std::fmt;
 fn prints(b: u8) -> bool
     ensures from_32_to_126 { result ≡ prints b }
 {
-    b >= b' ' && b <= b'~'
+    matches!(b, b' '..=b'~')
 }
 
 // A byte that prints as it is, any other as `\xNN`.

@@ -5,6 +5,7 @@ ghost use Rattle.explain.specs.Offers.{candidate_line, candidate_lines, may_pass
 
 use crate::offer::{Offer, Verdict};
 use crate::shown::Shown;
+use candidates::Fault;
 use std::fmt;
 
 // What becomes of a candidate, in words.
@@ -21,11 +22,11 @@ fn verdict_name(verdict: Verdict) -> &'static str
 }
 
 // Whether no acceptable candidate has come yet, once this one has.
-fn stays_open(first: bool, offer: &Offer) -> bool
+fn stays_open(first: bool, offer: &Result<Offer, Fault>) -> bool
     ensures until_an_acceptable_one { (path : Bytes) → result ≡ (first && not (may_pass (shown path offer.now))) }
 {
     match offer {
-        Offer::Try(_, Verdict::Acceptable) => false,
+        Ok(Offer { verdict: Verdict::Acceptable, .. }) => false,
         _ => first,
     }
 }
@@ -35,7 +36,7 @@ fn stays_open(first: bool, offer: &Offer) -> bool
 struct OfferLine<'a> {
     path: &'a [u8],
     first: bool,
-    offer: &'a Offer,
+    offer: &'a Result<Offer, Fault>,
 }
 
 impl fmt::Display for OfferLine<'_> {
@@ -43,7 +44,7 @@ impl fmt::Display for OfferLine<'_> {
 
     fn fmt<W: fmt::Write>(&self, f: &mut fmt::Formatter<W>) -> fmt::Result {
         match *self.offer {
-            Offer::Try(text, verdict) => {
+            Ok(Offer { text, verdict }) => {
                 let mark = match verdict {
                     Verdict::Acceptable if self.first => ", the first",
                     _ => "",
@@ -55,12 +56,14 @@ impl fmt::Display for OfferLine<'_> {
                     verdict_name(verdict)
                 )
             }
-            Offer::BrokenManifest => writeln!(
+            Err(Fault::BrokenManifest) => writeln!(
                 f,
                 "    refused with 30, since the manifest of {} is broken",
                 Shown(self.path)
             ),
-            Offer::TooLong => writeln!(f, "    refused with 28, since a text passes 255 bytes"),
+            Err(Fault::TooLong) => {
+                writeln!(f, "    refused with 28, since a text passes 255 bytes")
+            }
         }
     }
 }
@@ -69,7 +72,7 @@ impl fmt::Display for OfferLine<'_> {
 #[derive(Clone, Copy)]
 pub struct Offered<'a> {
     pub path: &'a [u8],
-    pub offers: &'a [Offer],
+    pub offers: &'a [Result<Offer, Fault>],
 }
 
 impl fmt::Display for Offered<'_> {

@@ -131,20 +131,14 @@ pub struct Told<'a> {
 fn piece_of(place: Option<Place>, request: &[u8]) -> Option<&[u8]>
     ensures text_at_its_place { option_map (λ t. t.now) result ≡ piece_at request.now place }
 {
-    match place {
-        Some(place) => Some(place.of(request)),
-        None => None,
-    }
+    place.map(|place| place.of(request))
 }
 
 // The bytes of a text, if there is one.
 fn bytes_in(text: &Option<Text<255>>) -> Option<&[u8]>
     ensures bytes_of_the_text { option_map (λ t. t.now) result ≡ option_map bytes_of text.now }
 {
-    match text {
-        Some(text) => Some(text.as_bytes()),
-        None => None,
-    }
+    text.as_ref().map(|text| text.as_bytes())
 }
 
 impl<'a> Told<'a> {
