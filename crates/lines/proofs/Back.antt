@@ -1,7 +1,8 @@
 -- Numbers that are written in columns are read back.
-use Rattle.std.proofs.Common.{◌≡◌, ℕ, ◌≤◌, true, Some, refl, arith}
+use Rattle.std.proofs.Common.{◌≡◌, ℕ, ◌≤◌, Bool, true, false, List, Some, Option, MatchOption, sym, refl, subst, arith}
+use Rattle.std.specs.Bool.{then_some}
 use Rattle.std.proofs.lemmas.Bool.Decides.{nat_tests}
-use Rattle.lines.specs.Columns.{column, columns, have_room, number_at}
+use Rattle.lines.specs.Columns.{column, columns, have_room, number_at, written}
 use Rattle.lines.specs.Sheets.{has_blanks, head_numbers, head_of, row_numbers, Shows}
 use Rattle.lines.specs.declared.Head.{Head}
 use Rattle.lines.specs.declared.Row.{Row}
@@ -36,3 +37,10 @@ row_back r room =
       second = column_back r.second (grind (arith, nat_tests));
       third = column_back r.third (grind (arith, nat_tests));
     }
+
+-- what was written, if there was room
+pub told : (ns : List ℕ) (P : List ℕ → Type 0) → (have_room ns ≡ true → P (columns ns)) → (r : Option (List ℕ)) → r ≡ written ns → MatchOption r (have_room ns ≡ false) P
+unfolding written
+told ns P h r is =
+    subst (λ (o : Option (List ℕ)). MatchOption o (have_room ns ≡ false) P) (sym is)
+    (elim (have_room ns) as (λ (b : Bool). have_room ns ≡ b → MatchOption (then_some b (columns ns)) (have_room ns ≡ false) P) [ true ↦ h | false ↦ λ e. e ] refl)

@@ -1,8 +1,7 @@
 // Numbers in columns of three bytes.
-ghost use Rattle.std.specs.Prelude.{◌≡◌, ◌+◌, ◌*◌, ◌/◌, ◌%◌, ◌<◌, ◌≤◌, length, is_some, Some, MatchOption};
+ghost use Rattle.std.specs.Prelude.{◌≡◌, ◌*◌, ◌/◌, ◌%◌, ◌<◌, length, Some, MatchOption};
 ghost use Rattle.std.specs.Bool.{then_some};
-ghost use Rattle.std.proofs.Math.Seq.{paste};
-ghost use Rattle.lines.specs.Columns.{column, has_room, is_column, number_at, worth};
+ghost use Rattle.lines.specs.Columns.{column, has_room, is_column, number_at, worth, written};
 
 // Whether three bytes are a column: one, two or three digits with blanks in front.
 fn is_column(a: u8, b: u8, c: u8) -> bool
@@ -28,6 +27,7 @@ fn worth_of(b: u8) -> u16
 }
 
 /// The number in three bytes, if they are a column.
+#[tactic(auto, unfolding(crate::specs::Columns::number_at))]
 pub fn read_column(bytes: [u8; 3]) -> Option<u16>
     ensures reads_the_column { result ≡ number_at bytes 0 }
 {
@@ -38,7 +38,7 @@ pub fn read_column(bytes: [u8; 3]) -> Option<u16>
     Some(100 * worth_of(a) + 10 * worth_of(b) + worth_of(c))
 }
 
-// How often `unit` goes into `n`, and what is left. Taken off again and again, since there is no division.
+// How often `unit` goes into `n`, and what is left. Taken off again and again by a rule of the project: the image has no helper that divides.
 fn take_off(n: u16, unit: u16) -> (u8, u16)
     requires unit_is_not_0 { 0 < unit }
     requires less_than_10_units { n < 10 * unit }
@@ -69,13 +69,16 @@ pub fn write_column(n: u16) -> Option<[u8; 3]>
     Some([first, second, b'0' + ones as u8])
 }
 
-// Writes the column of `n` at place `at`; where it has no room for `n`, nothing is written.
-pub(crate) fn put(bytes: &mut [u8], at: usize, n: u16) -> Option<()>
-    requires { at + 3 ≤ length bytes.old }
-    ensures written_if_there_is_room { is_some result ≡ has_room n }
-    ensures column_at_its_place_or_unchanged { MatchOption result (bytes.new ≡ bytes.old) (λ _. bytes.new ≡ paste bytes.old at (column n) 3) }
+// The columns of the numbers, with a blank behind each; none where a column has no room for its number.
+pub(crate) fn write_columns<const LEN: usize>(numbers: &[u16]) -> Option<[u8; LEN]>
+    requires four_bytes_each { LEN ≡ 4 * length numbers.now }
+    ensures writes_the_columns { result ≡ written numbers.now }
 {
-    let column = write_column(n)?;
-    bytes[at..at + 3].copy_from_slice(&column);
-    Some(())
+    let mut bytes = [0; LEN];
+    let cells = &mut bytes[..];
+    for (i, n) in numbers.iter().enumerate() {
+        let [a, b, c] = write_column(*n)?;
+        cells[4 * i..4 * i + 4].copy_from_slice(&[a, b, c, b' ']);
+    }
+    Some(bytes)
 }

@@ -11,14 +11,14 @@ ghost use Rattle.lines.specs.declared.Refusal.TheVariants.{BadLine};
 mod columns;
 mod split;
 
-use columns::put;
+use columns::write_columns;
 pub use columns::{read_column, write_column};
 pub use split::first_line;
 
 /// Why a sheet is refused.
 #[derive(Clone, Copy, PartialEq, Eq, Debug)]
 pub enum Refusal {
-    BadLine,
+    BadLine = 15,
 }
 
 impl Refusal {
@@ -26,9 +26,7 @@ impl Refusal {
     pub fn number(self) -> u8
         ensures gives_its_number { result ≡ number_of self }
     {
-        match self {
-            Refusal::BadLine => 15,
-        }
+        self as u8
     }
 }
 
@@ -41,14 +39,16 @@ pub struct Head {
 }
 
 // The number in the column at place `at` of a line.
+#[tactic(auto, unfolding(crate::specs::Columns::number_at))]
 fn column_at(line: &[u8], at: usize) -> Result<u16, Refusal>
-    requires { at + 3 ≤ length line.now }
+    requires within_the_line { at + 3 ≤ length line.now }
     ensures number_in_the_column { result ≡ ok_or (number_at line.now at) BadLine }
 {
     read_column([line[at], line[at + 1], line[at + 2]]).ok_or(Refusal::BadLine)
 }
 
 // Whether a line has blanks between the columns and behind them.
+#[tactic(auto, unfolding(crate::specs::Sheets::has_blanks))]
 fn has_blanks(line: &[u8]) -> bool
     ensures blanks_behind_the_columns { result ≡ has_blanks line.now }
     ensures at_least_12_bytes_if_true { result ≡ true → 12 ≤ length line.now }
@@ -58,6 +58,7 @@ fn has_blanks(line: &[u8]) -> bool
 
 impl Head {
     /// The head of a line, whatever stands behind it.
+    #[tactic(auto, unfolding(crate::specs::Sheets::head_of))]
     pub fn read(line: &[u8]) -> Result<Head, Refusal>
         ensures reads_the_head { result ≡ ok_or (head_of line.now) BadLine }
         ensures refuses_with_15 { IfErr result (λ e. number_of e ≡ 15) }
@@ -80,11 +81,7 @@ impl Head {
         ensures writes_the_head { result ≡ written (head_numbers self) }
         ensures reads_back { MatchOption result (have_room (head_numbers self) ≡ false) (λ bytes. head_of bytes ≡ Some self) }
     {
-        let mut bytes = [b' '; 12];
-        put(&mut bytes, 0, self.kind)?;
-        put(&mut bytes, 4, self.first)?;
-        put(&mut bytes, 8, self.second)?;
-        Some(bytes)
+        write_columns(&[self.kind, self.first, self.second])
     }
 }
 
@@ -98,6 +95,7 @@ pub struct Line<'a> {
 
 impl<'a> Line<'a> {
     /// A line whose head is followed by both texts and nothing else.
+    #[tactic(auto, unfolding(crate::specs::Sheets::content_of))]
     pub fn read(line: &'a [u8]) -> Result<Line<'a>, Refusal>
         ensures reads_the_line { result_map_both said (λ e. e) result ≡ ok_or (content_of line.now) BadLine }
         ensures nothing_but_head_and_texts { IfOk result (λ l. line.now ≡ take 12 line.now ++ (l.first.now ++ l.second.now)) }
@@ -132,12 +130,12 @@ impl Row {
         ensures writes_the_row { result ≡ written (row_numbers self) }
         ensures reads_back { MatchOption result (have_room (row_numbers self) ≡ false) (λ bytes. Shows bytes self) }
     {
-        let mut bytes = [b' '; 20];
-        put(&mut bytes, 0, self.number)?;
-        put(&mut bytes, 4, self.rounds)?;
-        put(&mut bytes, 8, self.first)?;
-        put(&mut bytes, 12, self.second)?;
-        put(&mut bytes, 16, self.third)?;
-        Some(bytes)
+        write_columns(&[
+            self.number,
+            self.rounds,
+            self.first,
+            self.second,
+            self.third,
+        ])
     }
 }

@@ -1,11 +1,8 @@
 -- What the tables keep when an entry is put behind the others. Assumes nothing.
-use Rattle.std.proofs.Common.{◌≡◌, ℕ, ◌<◌, Bool, true, false, cond, ◌&&◌, ltb, leb, List, [], ◌∷◌, ◌++◌, map, length, Some, Option, refl, ap, ◌∙◌, subst, arith, MatchOption}
-use Rattle.std.proofs.lemmas.List.{length-map, length_push, map_push}
-use Rattle.std.proofs.lemmas.Bool.{and_from, and_parts, cond-true, le-leb, leb-false, lt-ltb}
-use Rattle.stack.specs.Held.{held}
-use Rattle.stack.specs.declared.array_vec.ArrayVec.{ArrayVec}
+use Rattle.std.proofs.Common.{◌≡◌, ℕ, ◌<◌, true, ◌&&◌, leb, List, [], ◌∷◌, ◌++◌, length, Some, Option, refl, subst, arith, MatchOption}
+use Rattle.std.proofs.lemmas.List.{length_push}
+use Rattle.std.proofs.lemmas.Bool.{and_from, and_parts, le-leb}
 use Rattle.texts.specs.Held.{bytes_of}
-use Rattle.texts.specs.Parts.{every}
 use Rattle.texts.specs.Texts.{Text}
 use Rattle.texts.specs.declared.text.Text as room
 use Rattle.settings.specs.declared.kinds.Setting.TheVariants as setting
@@ -16,22 +13,6 @@ use Rattle.settings.specs.Tables.{Alias, Value, labelled}
 -- the text that was made from these bytes
 pub text_made : {N : ℕ} (o : Option (room.Text N)) (x : room.Text N) (t : Text) → o ≡ Some x → MatchOption o (N < length t) (λ y. bytes_of y ≡ t) → bytes_of x ≡ t
 text_made {N} o x t e h = subst (λ (p : Option (room.Text N)). MatchOption p (N < length t) (λ y. bytes_of y ≡ t)) e h
-
--- texts
-pub every_pushed : (f : Text → Bool) (ts : List Text) (t : Text) → every f ts ≡ true → f t ≡ true → every f (ts ++ t ∷ []) ≡ true
-every_pushed f [] t h e = and_from (f t) true e refl
-every_pushed f (x ∷ ts) t h e = let p = and_parts (f x) (every f ts) h in and_from (f x) _ p.0 (every_pushed f ts t p.1 e)
-
--- a text put behind those of a list that has room
-pub text_pushed : {L N : ℕ} (v w : ArrayVec (room.Text L) N) (x : room.Text L) (t : Text) (ok : Bool)
-    → ok ≡ ltb (length (held v)) N → held w ≡ cond ok (held v ++ x ∷ []) (held v) → bytes_of x ≡ t → leb N (length (map bytes_of (held v))) ≡ false
-    → map bytes_of (held w) ≡ map bytes_of (held v) ++ t ∷ []
-text_pushed {L} {N} v w x t ok is after made free =
-    let few : length (held v) < N = omega (arith, leb-false N (length (map bytes_of (held v))) free, length-map (held v) (bytes_of {N = L})) in
-    let yes : ok ≡ true = is ∙ lt-ltb _ _ few in
-    ap (map bytes_of) (after ∙ cond-true ok _ _ yes)
-    ∙ map_push bytes_of (held v) x
-    ∙ ap (λ (b : Text). map bytes_of (held v) ++ b ∷ []) made
 
 -- labels
 pub aliases_pushed : (ls : List Alias) (t : Text) → aliases_kept ls ≡ true → well_written setting.Alias t ≡ true → aliases_kept (ls ++ labelled t [] ∷ []) ≡ true

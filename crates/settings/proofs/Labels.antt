@@ -1,5 +1,5 @@
 -- The labels of a table by their rows, and the last of them. Assumes nothing.
-use Rattle.std.proofs.Common.{◌≡◌, ℕ, suc, ◌-◌, ◌<◌, false, eqb, leb, List, [], ◌∷◌, map, length, get_or, take, set, sym, refl, ap, ◌∙◌, arith}
+use Rattle.std.proofs.Common.{◌≡◌, ℕ, suc, ◌-◌, ◌<◌, false, eqb, leb, List, [], ◌∷◌, map, length, get_or, take, set, Some, None, Option, MatchOption, slice_get, subst, sym, refl, ap, ◌∙◌, arith}
 use Rattle.std.proofs.lemmas.Bool.{eq-eqb, leb-false, ne_eqb}
 use Rattle.stack.proofs.Slots.{slot_at, slot_changed, slots_count}
 use Rattle.settings.specs.declared.row.AliasRow.{AliasRow}
@@ -20,10 +20,16 @@ pub unlabelled_is : (ls : List Alias) → eqb (length ls) 0 ≡ unlabelled ls
 unlabelled_is [] = eq-eqb 0 0 refl
 unlabelled_is (a ∷ ls) = ne_eqb (length (a ∷ ls)) 0 (λ e. omega arith)
 
--- the last label, by its place
-last_place : (a : Alias) (ls : List Alias) → length (a ∷ ls) - 1 ≡ length ls
-last_place a ls = omega arith
+-- how many values the last row has, if there is one
+pub counted : (xs : List AliasRow) (o : Option AliasRow) (n : ℕ)
+    → o ≡ slice_get xs (length xs - 1) → MatchOption o (n ≡ 0) (λ r. n ≡ length (alias_of r).values) → n ≡ length (last_values (map alias_of xs))
+counted [] o n e h = let none : o ≡ None = e in subst (λ (p : Option AliasRow). MatchOption p (n ≡ 0) (λ r. n ≡ length (alias_of r).values)) none h
+counted (x ∷ []) o n e h = let one : o ≡ Some x = e in subst (λ (p : Option AliasRow). MatchOption p (n ≡ 0) (λ r. n ≡ length (alias_of r).values)) one h
+counted (x ∷ y ∷ xs) o n e h =
+    let last : length (x ∷ y ∷ xs) - 1 ≡ suc (length (y ∷ xs) - 1) = omega arith in
+    counted (y ∷ xs) o n (e ∙ ap (slice_get (x ∷ y ∷ xs)) last) h
 
+-- the last label, by its place
 pub last_at : (ls : List Alias) (n : ℕ) (d : Alias) → length ls ≡ suc n → last_values ls ≡ (get_or ls n d).values
 last_at [] n d e = absurd (omega arith)
 last_at (a ∷ []) n d e = let z : 0 ≡ n = omega arith in ap (λ (k : ℕ). (get_or (a ∷ []) k d).values) z

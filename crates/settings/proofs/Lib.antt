@@ -1,3 +1,4 @@
 pub mod Kept
 pub mod Labels
 pub mod Offers
+pub mod Tests

@@ -1,5 +1,5 @@
 -- What an office may write into the tables, in which order it is refused, and the tables afterwards. Assumes nothing.
-use Rattle.std.specs.Prelude.{ℕ, Bool, true, false, cond, not, ◌&&◌, ◌||◌, List, [], ◌∷◌, ◌++◌, length, Some, None, Ok, Err, Option, Result, ◌==◌, nat_le}
+use Rattle.std.specs.Prelude.{ℕ, Bool, true, false, cond, not, ◌&&◌, ◌||◌, List, [], ◌∷◌, ◌++◌, length, Some, None, Option, ◌==◌, nat_le}
 use Rattle.texts.specs.Texts.{DOT, SLASH, Text, begins, empty, has, printable}
 use Rattle.texts.specs.Parts.{clean}
 use Rattle.settings.specs.declared.enforcement.EnforceExtension.{EnforceExtension}
@@ -147,11 +147,6 @@ with_flag n s t =
     cond (n == 1) (with_fully_specified (s == 1) t)
     (cond (n == 2) (with_context (s == 1) t)
     (with_enforcement (enforcement_of s) t))
-
--- what a call returns
-abbrev pub entered : Option Refusal → Result Unit Refusal
-entered None = Ok tt
-entered (Some e) = Err e
 
 -- what is refused leaves everything as it was
 abbrev pub unless_refused : Option Refusal → Tables → Tables → Tables

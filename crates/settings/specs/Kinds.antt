@@ -1,5 +1,5 @@
 -- The kinds of settings and the refusals, by their numbers. Assumes nothing.
-use Rattle.std.specs.Prelude.{ℕ, cond, Some, None, Option, ◌==◌}
+use Rattle.std.specs.Prelude.{ℕ, Bool, cond, ◌||◌, Some, None, Option, ◌==◌, is_some}
 use Rattle.settings.specs.declared.kinds.Setting.{Setting}
 use Rattle.settings.specs.declared.kinds.Setting.TheVariants.{Alias, Value, Ignore, Extension, MainFile, Restriction}
 use Rattle.settings.specs.declared.refusals.Refusal.{Refusal}
@@ -14,6 +14,10 @@ setting_of n =
     (cond (n == 25) (Some Extension)
     (cond (n == 26) (Some MainFile)
     (cond (n == 30) (Some Restriction) None)))))
+
+-- a line of this kind is one of the settings: a setting, or a flag
+abbrev pub is_kind : ℕ → Bool
+is_kind n = n == 31 || is_some (setting_of n)
 
 -- the number of a refusal
 abbrev pub number : Refusal → ℕ

@@ -1,4 +1,5 @@
 pub mod Entries
+pub mod Flags
 pub mod Kinds
 pub mod Limits
 pub mod Loading

@@ -1,5 +1,6 @@
 -- What a row of the alias table means. Assumes nothing.
-use Rattle.std.specs.Prelude.{map, take}
+use Rattle.std.specs.Prelude.{map}
+use Rattle.stack.specs.Held.{held}
 use Rattle.texts.specs.Held.{bytes_of}
 use Rattle.settings.specs.declared.row.AliasRow.{AliasRow}
 use Rattle.settings.specs.declared.row.AliasValue.{AliasValue}
@@ -13,4 +14,4 @@ value_of (Path t) = to (bytes_of t)
 
 -- a label with its values, in the order written
 abbrev pub alias_of : AliasRow → Alias
-alias_of r = labelled (bytes_of r.label) (map value_of (take r.count r.values))
+alias_of r = labelled (bytes_of r.label) (map value_of (held r.values))

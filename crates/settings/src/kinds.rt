@@ -1,19 +1,17 @@
 // What a line of the settings adds.
 ghost use Rattle.std.specs.Prelude.{◌≡◌};
+ghost use Rattle.std.specs.Option.{ok_or};
 ghost use Rattle.texts.specs.Texts.{has};
 ghost use Rattle.settings.specs.Entries.{dotted, formed, label_sized, sized};
-ghost use Rattle.settings.specs.Kinds.{setting_of};
+ghost use Rattle.settings.specs.Kinds.{is_kind, setting_of};
+ghost use Rattle.settings.specs.declared.refusals.Refusal.TheVariants.{Kind};
 
-use texts::{MAX_LEN, is_clean, position};
+use crate::limits::{MAX_EXTENSION, MAX_LABEL, MAX_MAIN_FILE, MAX_RESTRICTION, MAX_VALUE};
+use crate::refusals::Refusal;
+use texts::is_clean;
 
-// The most characters of a label, and bytes of a value, an extension and a main file.
-const MAX_LABEL: usize = 32;
-
-const MAX_VALUE: usize = 96;
-
-const MAX_EXTENSION: usize = 12;
-
-const MAX_MAIN_FILE: usize = 16;
+// The kind of a line that sets a flag.
+pub(crate) const FLAG: u16 = 31;
 
 /// What a line of the settings adds to a table; a flag adds nothing and has a number of its own.
 #[derive(Clone, Copy, PartialEq, Eq, Debug)]
@@ -30,41 +28,51 @@ pub enum Setting {
 fn has_slash(name: &[u8]) -> bool
     ensures slash_in_the_name { result ≡ has 47 name.now }
 {
-    position(name, b'/') < name.len()
+    name.contains(&b'/')
 }
 
 // Whether an extension is empty or begins with a dot.
 fn is_dotted(extension: &[u8]) -> bool
     ensures empty_or_a_dot_first { result ≡ dotted extension.now }
 {
-    match extension {
-        [] | [b'.', ..] => true,
-        _ => false,
+    matches!(extension, [] | [b'.', ..])
+}
+
+impl TryFrom<u16> for Setting {
+    type Error = Refusal;
+
+    ghost try_from_gives = { λ n r. r ≡ ok_or (setting_of n) Kind };
+
+    /// The setting to which an office gives this number. The numbers stand here alone, since nothing asks for the number of a setting.
+    fn try_from(number: u16) -> Result<Setting, Refusal>
+        ensures setting_by_its_number { result ≡ ok_or (setting_of number) Kind }
+    {
+        match number {
+            21 => Ok(Setting::Alias),
+            23 => Ok(Setting::Value),
+            24 => Ok(Setting::Ignore),
+            25 => Ok(Setting::Extension),
+            26 => Ok(Setting::MainFile),
+            30 => Ok(Setting::Restriction),
+            _ => Err(Refusal::Kind),
+        }
     }
 }
 
-impl Setting {
-    /// The setting to which an office gives this number.
-    pub fn of(number: u16) -> Option<Setting>
-        ensures setting_by_its_number { result ≡ setting_of number }
-    {
-        match number {
-            21 => Some(Setting::Alias),
-            23 => Some(Setting::Value),
-            24 => Some(Setting::Ignore),
-            25 => Some(Setting::Extension),
-            26 => Some(Setting::MainFile),
-            30 => Some(Setting::Restriction),
-            _ => None,
-        }
-    }
+/// Whether a line of this kind is one of the settings: a setting, or a flag.
+pub fn is_setting_kind(kind: u16) -> bool
+    ensures setting_or_flag { result ≡ is_kind kind }
+{
+    kind == FLAG || Setting::try_from(kind).is_ok()
+}
 
+impl Setting {
     // Whether a label has a length that it may have; what is no label passes.
     pub(crate) fn takes_label(self, text: &[u8]) -> bool
         ensures one_to_32_characters { result ≡ label_sized self text.now }
     {
         match self {
-            Setting::Alias => 1 <= text.len() && text.len() <= MAX_LABEL,
+            Setting::Alias => matches!(text.len(), 1..=MAX_LABEL),
             _ => true,
         }
     }
@@ -75,11 +83,11 @@ impl Setting {
     {
         match self {
             Setting::Alias => true,
-            Setting::Value => 1 <= text.len() && text.len() <= MAX_VALUE,
-            Setting::Ignore => text.len() == 0,
+            Setting::Value => matches!(text.len(), 1..=MAX_VALUE),
+            Setting::Ignore => text.is_empty(),
             Setting::Extension => text.len() <= MAX_EXTENSION,
-            Setting::MainFile => 1 <= text.len() && text.len() <= MAX_MAIN_FILE,
-            Setting::Restriction => text.len() <= MAX_LEN,
+            Setting::MainFile => matches!(text.len(), 1..=MAX_MAIN_FILE),
+            Setting::Restriction => text.len() <= MAX_RESTRICTION,
         }
     }
 

@@ -3,13 +3,15 @@
 
 mod enforcement;
 mod entry;
+mod flag;
 mod kinds;
+mod limits;
 mod refusals;
 mod row;
 mod settings;
 
 pub use enforcement::EnforceExtension;
-pub use kinds::Setting;
+pub use kinds::{Setting, is_setting_kind};
 pub use refusals::Refusal;
 pub use row::{AliasRow, AliasValue};
 pub use settings::Settings;

@@ -1,22 +1,23 @@
 // Why an entry is not taken.
 ghost use Rattle.std.specs.Prelude.{◌≡◌};
 ghost use Rattle.settings.specs.Kinds.{number};
+ghost use Rattle.settings.specs.declared.refusals.Refusal.TheVariants as refusal;
 
 /// Why an entry is not taken.
 #[derive(Clone, Copy, PartialEq, Eq, Debug)]
 pub enum Refusal {
-    /// The columns are not those of a line, or there is no such kind.
-    Kind,
-    /// A value before any label.
-    ValueBeforeLabel,
     /// A label that has no character, or more than 32.
-    LabelLength,
+    LabelLength = 10,
     /// Another length, or a byte outside 32 to 126.
-    Text,
-    /// A restriction that is not clean, an extension without its dot, a slash in a name, or no such flag.
-    Form,
+    Text = 11,
     /// The table is full.
-    Full,
+    Full = 12,
+    /// A restriction that is not clean, an extension without its dot, a slash in a name, or no such flag.
+    Form = 13,
+    /// A value before any label.
+    ValueBeforeLabel = 14,
+    /// The columns are not those of a line, or there is no such kind.
+    Kind = 15,
 }
 
 impl Refusal {
@@ -24,13 +25,17 @@ impl Refusal {
     pub fn number(self) -> u8
         ensures number_of_the_refusal { result ≡ number self }
     {
-        match self {
-            Refusal::LabelLength => 10,
-            Refusal::Text => 11,
-            Refusal::Full => 12,
-            Refusal::Form => 13,
-            Refusal::ValueBeforeLabel => 14,
-            Refusal::Kind => 15,
-        }
+        self as u8
+    }
+}
+
+impl From<lines::Refusal> for Refusal {
+    ghost from_gives = { λ _ r. r ≡ refusal.Kind };
+
+    /// A line with other columns is refused as one of another kind is.
+    fn from(_: lines::Refusal) -> Refusal
+        ensures columns_are_refused_as_kinds { result ≡ refusal.Kind }
+    {
+        Refusal::Kind
     }
 }

@@ -101,12 +101,5 @@ is_absolute_by_bytes (b ∷ s) =
       ]
     ]
 
--- what the code found by the bytes is the way of the path
-pub way_told : (s : Text) (r : Branch) → r ≡ by_bytes s → record {
-  way_of_the_first_part : r ≡ branch s;
-  absolute_exactly_with_a_leading_slash : is_absolute r ≡ begins SLASH s;
-}
-way_told s r e = record {
-  way_of_the_first_part = e ∙ by_bytes_is s;
-  absolute_exactly_with_a_leading_slash = ap is_absolute e ∙ is_absolute_by_bytes s;
-}
+pub branch_is : (s : Text) → branch s ≡ by_bytes s
+branch_is s = sym (by_bytes_is s)

@@ -1,6 +1,5 @@
 -- How the scans go on byte by byte, and what they find. Assumes nothing.
-use Rattle.std.proofs.Common.{◌≡◌, ℕ, zero, suc, ◌+◌, ◌<◌, ◌≤◌, true, false, cond, not, ◌&&◌, eqb, ◌⊎◌, [], ◌∷◌, length, get_or, take, drop, sym, refl, ap, ◌∙◌, arith}
-use Rattle.std.proofs.lemmas.List.{at_drop_more}
+use Rattle.std.proofs.Common.{◌≡◌, ℕ, zero, suc, ◌<◌, ◌≤◌, true, false, cond, not, ◌&&◌, eqb, [], ◌∷◌, length, take, drop, sym, refl, ap, ◌∙◌, arith}
 use Rattle.std.proofs.lemmas.Bool.{cond-false, and_left, and_parts}
 use Rattle.std.proofs.lemmas.Bool.Decides.{nat_tests}
 use Rattle.specifier.specs.Requests.{until_hash}
@@ -9,14 +8,6 @@ use Rattle.texts.specs.Texts.{Text, NUL, HASH, begins, has, until}
 pub until_hash_le : (p : ℕ) (s : Text) → until_hash p s ≤ length s
 until_hash_le p [] = omega arith
 until_hash_le p (b ∷ s) = let h = until_hash_le b s in grind (arith, nat_tests)
-
--- at byte i of a text
-module _ (s : Text) (i : ℕ) (within : i < length s) where
-  pub until_hash_stops : (p : ℕ) → get_or s i 0 ≡ HASH → (p ≡ NUL → ⊥) → until_hash p (drop i s) ≡ 0
-  until_hash_stops p e n = let here = at_drop_more (until_hash p) s i 0 within in grind (arith, nat_tests)
-
-  pub until_hash_goes_on : (p : ℕ) → ((get_or s i 0 ≡ HASH) × (p ≡ NUL)) ⊎ (get_or s i 0 ≡ HASH → ⊥) → until_hash p (drop i s) ≡ suc (until_hash (get_or s i 0) (drop (i + 1) s))
-  until_hash_goes_on p e = let here = at_drop_more (until_hash p) s i 0 within in grind (arith, nat_tests)
 
 -- a text without a byte: neither its first byte nor the others
 pub hasnt_head : (b c : ℕ) (s : Text) → has b (c ∷ s) ≡ false → eqb c b ≡ false

@@ -14,6 +14,7 @@ pub enum Branch {
 
 impl Branch {
     /// The way of `path`, by its first part: a name that merely begins with a dot is no `.` or `..`.
+    #[tactic(auto, using(crate::proofs::Firsts::branch_is))]
     pub fn of(path: &[u8]) -> Branch
         ensures way_of_the_first_part { result ≡ branch path.now }
         ensures absolute_exactly_with_a_leading_slash { is_absolute result ≡ begins SLASH path.now }

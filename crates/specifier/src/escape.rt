@@ -1,7 +1,8 @@
 // Taking the escapes out of a path.
-ghost use Rattle.std.specs.Prelude.{◌≡◌, ◌≤◌, length, Some};
+ghost use Rattle.std.specs.Prelude.{◌≡◌, length, Some};
+ghost use Rattle.std.specs.Iterator.{YieldsFirst, item_count};
 ghost use Rattle.specifier.specs.Requests.{escapes, unescaped};
-ghost use Rattle.texts.specs.Texts.{fronted, length_in, buffer_with};
+ghost use Rattle.texts.specs.Texts.{length_in, buffer_with};
 
 /// Whether `text` begins with an escape.
 fn at_escape(text: &[u8]) -> bool
@@ -10,30 +11,24 @@ fn at_escape(text: &[u8]) -> bool
     matches!(text, [0, b'#', ..])
 }
 
-/// How long `text` is without its escapes.
-fn unescaped_len(text: &[u8]) -> usize
-    ensures counts_what_stays { result ≡ length (unescaped text.now) }
-{
-    let mut len = 0;
-    for i in 0..text.len() {
-        if !at_escape(&text[i..]) {
-            len += 1;
-        }
-    }
-    len
-}
+/// The bytes of a text without its escapes, one after another.
+#[derive(Drop)]
+struct Unescaped<'a>(&'a [u8]);
 
-/// Copies `text` without its escapes to the front of `out`, which has room.
-fn copy_unescaped(text: &[u8], out: &mut [u8])
-    requires has_room { length (unescaped text.now) ≤ length out.old }
-    ensures text_in_front { out.new ≡ fronted (unescaped text.now) out.old }
-{
-    let mut len = 0;
-    for i in 0..text.len() {
-        if !at_escape(&text[i..]) {
-            out[len] = text[i];
-            len += 1;
+impl<'a> Iterator for Unescaped<'a> {
+    type Item = u8;
+
+    ghost next_gives = { YieldsFirst (λ s. unescaped s.0.now) };
+
+    ghost remaining = { item_count (λ s. unescaped s.0.now) };
+
+    fn next(&mut self) -> Option<u8> {
+        if at_escape(self.0) {
+            self.0 = &self.0[1..];
         }
+        let (first, rest) = self.0.split_first()?;
+        self.0 = rest;
+        Some(*first)
     }
 }
 
@@ -42,10 +37,12 @@ pub(crate) fn write_unescaped(text: &[u8], out: &mut [u8]) -> Option<usize>
     ensures length_if_it_fits { result ≡ length_in (Some (unescaped text.now)) (length out.old) }
     ensures bytes_if_it_fits { out.new ≡ buffer_with (Some (unescaped text.now)) out.old }
 {
-    let len = unescaped_len(text);
+    let len = Unescaped(text).count();
     if len > out.len() {
         return None;
     }
-    copy_unescaped(text, out);
+    for (i, b) in Unescaped(text).enumerate() {
+        out[i] = b;
+    }
     Some(len)
 }

@@ -22,7 +22,7 @@ pub struct Specifier {
 /// Why a request cannot be read.
 #[derive(Clone, Copy, PartialEq, Eq, Debug)]
 pub enum SpecifierError {
-    Empty,
+    Empty = 21,
 }
 
 impl SpecifierError {
@@ -30,9 +30,7 @@ impl SpecifierError {
     pub fn number(self) -> u8
         ensures number_of_the_fault { result ≡ number self }
     {
-        match self {
-            SpecifierError::Empty => 21,
-        }
+        self as u8
     }
 }
 
@@ -88,9 +86,7 @@ impl Specifier {
         };
         let fragment_at = fragment_start(request, from);
         let query_at = query_start(request, from, fragment_at);
-        let Some(path) = between(0, query_at) else {
-            return Err(SpecifierError::Empty);
-        };
+        let path = between(0, query_at).ok_or(SpecifierError::Empty)?;
         let query = between(query_at, fragment_at);
         let fragment = between(fragment_at, request.len());
         Ok(Specifier {
@@ -101,6 +97,7 @@ impl Specifier {
     }
 
     /// Copies the path of `request` without its escapes to the front of `out`, and says how long it is; none, and `out` as it was, if it does not fit.
+    // The memory is lent by the caller, by a rule of the project, so the length stands beside it.
     pub fn write_path(self, request: &[u8], out: &mut [u8]) -> Option<usize>
         ensures length_if_it_fits { result ≡ length_in (Some (unescaped (text_at request.now self.path))) (length out.old) }
         ensures bytes_if_it_fits { out.new ≡ buffer_with (Some (unescaped (text_at request.now self.path))) out.old }

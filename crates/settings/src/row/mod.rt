@@ -1,6 +1,6 @@
 // The structs stand alone in their file: the definitions in specs/ name them.
-ghost use Rattle.std.specs.Prelude.{◌≡◌, ◌≤◌, length};
-
+use crate::limits::{MAX_LABEL, MAX_VALUE, VALUES};
+use stack::ArrayVec;
 use texts::Text;
 
 mod values;
@@ -9,15 +9,12 @@ mod values;
 #[derive(Clone, Copy)]
 pub enum AliasValue {
     Ignore,
-    Path(Text<96>),
+    Path(Text<MAX_VALUE>),
 }
 
 /// A label with up to four values, in the order in which they were added.
 #[derive(Clone, Copy)]
 pub struct AliasRow {
-    label: Text<32>,
-    values: [AliasValue; 4],
-    count: usize,
-    ghost whole: { length values ≡ 4 },
-    ghost within: { count ≤ 4 },
+    label: Text<MAX_LABEL>,
+    values: ArrayVec<AliasValue, VALUES>,
 }

@@ -7,6 +7,9 @@ ghost use Rattle.settings.specs.Limits.{aliases_kept, extension_kept, main_file_
 ghost use Rattle.settings.specs.Rows.{alias_of};
 
 use crate::enforcement::EnforceExtension;
+use crate::limits::{
+    EXTENSIONS, LABELS, MAIN_FILES, MAX_EXTENSION, MAX_MAIN_FILE, MAX_RESTRICTION, RESTRICTIONS,
+};
 use crate::row::AliasRow;
 use stack::ArrayVec;
 use texts::Text;
@@ -19,11 +22,12 @@ mod tables;
 /// The office's tables and flags.
 #[derive(Drop)]
 pub struct Settings {
-    rows: [AliasRow; 16],
+    // the labels: an array with its count by a rule of the project, since one row is changed in its place through `&mut self`
+    rows: [AliasRow; LABELS],
     count: usize,
-    extensions: ArrayVec<Text<12>, 8>,
-    main_files: ArrayVec<Text<16>, 4>,
-    restrictions: ArrayVec<Text<255>, 4>,
+    extensions: ArrayVec<Text<MAX_EXTENSION>, EXTENSIONS>,
+    main_files: ArrayVec<Text<MAX_MAIN_FILE>, MAIN_FILES>,
+    restrictions: ArrayVec<Text<MAX_RESTRICTION>, RESTRICTIONS>,
     fully_specified: bool,
     resolve_to_context: bool,
     enforce_extension: EnforceExtension,

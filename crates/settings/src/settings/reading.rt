@@ -6,20 +6,16 @@ ghost use Rattle.settings.specs.Rows.{alias_of};
 ghost use Rattle.settings.specs.Tables.{enforced, some_empty};
 
 use crate::enforcement::EnforceExtension;
+use crate::limits::{MAX_EXTENSION, MAX_MAIN_FILE, MAX_RESTRICTION};
 use crate::row::AliasRow;
 use crate::settings::Settings;
 use texts::Text;
 
 // Whether one of the texts is empty.
-fn has_empty(texts: &[Text<12>]) -> bool
+fn has_empty(texts: &[Text<MAX_EXTENSION>]) -> bool
     ensures one_of_them_is_empty { result ≡ some_empty (map bytes_of texts.now) }
 {
-    for i in 0..texts.len() {
-        if texts[i].as_bytes().is_empty() {
-            return true;
-        }
-    }
-    false
+    texts.iter().any(|text| text.as_bytes().is_empty())
 }
 
 impl Settings {
@@ -33,7 +29,7 @@ impl Settings {
     }
 
     /// The extensions, in the order written.
-    pub fn extensions(&self) -> &[Text<12>]
+    pub fn extensions(&self) -> &[Text<MAX_EXTENSION>]
         ensures extensions_in_the_order_written { map bytes_of result.now ≡ (tables self.now).extensions }
         ensures at_most_8 { length result.now ≤ 8 }
     {
@@ -41,7 +37,7 @@ impl Settings {
     }
 
     /// The main files, in the order written.
-    pub fn main_files(&self) -> &[Text<16>]
+    pub fn main_files(&self) -> &[Text<MAX_MAIN_FILE>]
         ensures main_files_in_the_order_written { map bytes_of result.now ≡ (tables self.now).main_files }
         ensures at_most_4 { length result.now ≤ 4 }
     {
@@ -49,7 +45,7 @@ impl Settings {
     }
 
     /// The restrictions, in the order written.
-    pub fn restrictions(&self) -> &[Text<255>]
+    pub fn restrictions(&self) -> &[Text<MAX_RESTRICTION>]
         ensures restrictions_in_the_order_written { map bytes_of result.now ≡ (tables self.now).restrictions }
         ensures at_most_4 { length result.now ≤ 4 }
     {

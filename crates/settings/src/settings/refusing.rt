@@ -1,25 +1,16 @@
 // Which settings are refused, and why.
 ghost use Rattle.std.specs.Prelude.{◌≡◌, ◌<◌, length};
+ghost use Rattle.texts.specs.Taken.{taken_unless};
 ghost use Rattle.settings.specs.Entries.{full, last_values, refusal_of, too_early};
 ghost use Rattle.settings.specs.Meant.{tables};
 ghost use Rattle.settings.specs.Rows.{alias_of};
 
 use crate::kinds::Setting;
+use crate::limits::{EXTENSIONS, LABELS, MAIN_FILES, RESTRICTIONS, VALUES};
 use crate::refusals::Refusal;
 use crate::row::AliasRow;
 use crate::settings::Settings;
 use texts::is_printable;
-
-// How much the tables hold.
-const LABELS: usize = 16;
-
-const VALUES: usize = 4;
-
-const EXTENSIONS: usize = 8;
-
-const MAIN_FILES: usize = 4;
-
-const RESTRICTIONS: usize = 4;
 
 impl Settings {
     // A value comes too early where no label stands before it.
@@ -32,25 +23,17 @@ impl Settings {
         }
     }
 
-    // How many values the last label has.
+    // How many values the last label has; none where there is no label.
     fn last_count(&self) -> usize
         ensures values_of_the_last_label { result ≡ length (last_values (tables self.now).aliases) }
     {
-        if self.count == 0 {
-            return 0;
+        match self.aliases().last() {
+            Some(row) => row.values().len(),
+            None => 0,
         }
-        self.last().values().len()
     }
 
-    // The row of the last label.
-    fn last(&self) -> &AliasRow
-        requires { 0 < self.now.count }
-        ensures row_of_the_last_label { last_values (tables self.now).aliases ≡ (alias_of result.now).values }
-    {
-        let rows = &self.rows[..];
-        &rows[self.count - 1]
-    }
-
+    // Whether the table has no room.
     fn is_full(&self, kind: Setting) -> bool
         ensures no_room_in_its_table { result ≡ full kind (tables self.now) }
     {
@@ -63,25 +46,25 @@ impl Settings {
         }
     }
 
-    // Why a setting is refused: the first check that it fails.
-    pub(crate) fn refusal(&self, kind: Setting, first: &[u8], second: &[u8]) -> Option<Refusal>
-        ensures first_check_that_fails { result ≡ refusal_of (tables self.now) kind first.now second.now }
+    // Refuses a setting, by the first check that it fails.
+    pub(crate) fn check(&self, kind: Setting, first: &[u8], second: &[u8]) -> Result<(), Refusal>
+        ensures first_check_that_fails { result ≡ taken_unless (refusal_of (tables self.now) kind first.now second.now) }
     {
         if self.comes_too_early(kind) {
-            return Some(Refusal::ValueBeforeLabel);
+            return Err(Refusal::ValueBeforeLabel);
         }
         if !kind.takes_label(first) {
-            return Some(Refusal::LabelLength);
+            return Err(Refusal::LabelLength);
         }
-        if !(kind.takes_length(first) && second.len() == 0 && is_printable(first)) {
-            return Some(Refusal::Text);
+        if !(kind.takes_length(first) && second.is_empty() && is_printable(first)) {
+            return Err(Refusal::Text);
         }
         if !kind.takes_form(first) {
-            return Some(Refusal::Form);
+            return Err(Refusal::Form);
         }
         if self.is_full(kind) {
-            return Some(Refusal::Full);
+            return Err(Refusal::Full);
         }
-        None
+        Ok(())
     }
 }

@@ -1,14 +1,6 @@
-use Rattle.std.proofs.Common.{ℕ, ◌/◌, ◌%◌, ◌<◌, sym, ap, ◌∙◌, lt_of_mul-lt-mul_right, arith, rules}
-use lib.Arith.{digits_div, digits_mod}
+use Rattle.std.proofs.Common.{ℕ, ◌%◌, sym, ap, ◌∙◌, arith}
+use lib.Arith.{digits_mod}
 use Rattle.lines.proofs.columns.take_off.Goals as goal
 
-pub overflow_add-times : goal.overflow_add-times
-overflow_add-times c =
-    let h : c.loop-left.times < 10 = lt_of_mul-lt-mul_right c.args.unit (omega arith) in search rules
-
-pub returns : goal.returns
-returns c =
-    record {
-      quotient_by_the_unit = sym (ap (λ (m : ℕ). m / c.args.unit) (sym c.loop-left.invariant) ∙ digits_div c.loop-left.times (omega arith));
-      remainder_by_the_unit = sym (ap (λ (m : ℕ). m % c.args.unit) (sym c.loop-left.invariant) ∙ digits_mod c.loop-left.times (omega arith));
-    }
+pub returns-clause-remainder_by_the_unit : goal.returns-clause-remainder_by_the_unit
+returns-clause-remainder_by_the_unit c = sym (ap (λ (m : ℕ). m % c.args.unit) (sym c.loop-left.invariant) ∙ digits_mod c.loop-left.times (omega arith))

@@ -1,4 +1,5 @@
-use Rattle.std.proofs.Common.{◌≡◌, ℕ, ◌-◌, ◌<◌, ◌≤◌, true, List, map, length, take, set, sym, ap, ◌∙◌, ⊎_elim, arith}
+use Rattle.std.proofs.Common.{◌≡◌, ℕ, ◌-◌, ◌<◌, ◌≤◌, true, List, map, length, take, set, sym, ap, ◌∙◌, ⊎_elim, arith, rules}
+use Rattle.std.specs.Result.{is_ok}
 use Rattle.std.proofs.lemmas.List.{length-set}
 use Rattle.std.proofs.lemmas.Bool.{cases_lt, cond-true, eqb-false, leb-false, lt-ltb}
 use Rattle.settings.specs.declared.row.AliasRow.{AliasRow}
@@ -24,16 +25,20 @@ some_label c =
 few_values : (c : After-push) → length (last_values (tables c.args.self.now).aliases) < 4
 few_values c = leb-false 4 (length (last_values (tables c.args.self.now).aliases)) c.requires.room
 
+-- the last row has room for one value more
+taken : (c : After-push) → is_ok c.push.result ≡ true
+taken c =
+    let s = c.args.self.now in
+    let here = last_values_are s (some_label c) c.index-rows-last.result c.index-rows-last.is in
+    c.push.ensures.room_for_four ∙ lt-ltb _ 4 (omega (arith, few_values c, ap length here, ap (λ (x : AliasRow). length (alias_of x).values) c.index-rows-last.is))
+
 -- the labels then
 labels_then : (c : After-push) → map alias_of (take c.args.self.now.count (set c.args.self.now.rows (c.args.self.now.count - 1) c.push.new.self)) ≡ to_last (value_of c.args.value) (tables c.args.self.now).aliases
 labels_then c =
     let s = c.args.self.now in
-    let r = c.index-rows-last.result in
     let is = c.index-rows-last.is in
-    let here = last_values_are s (some_label c) r is in
-    let room : c.push.result ≡ true = c.push.ensures.room_for_four ∙ lt-ltb _ 4 (omega (arith, few_values c, ap length here, ap (λ (x : AliasRow). length (alias_of x).values) is)) in
-    last_changed s (some_label c) r is c.push.new.self (value_of c.args.value)
-    (c.push.ensures.value_behind_the_others ∙ cond-true _ _ _ room ∙ ap (λ (x : AliasRow). with_value (value_of c.args.value) (alias_of x)) (sym is))
+    last_changed s (some_label c) c.index-rows-last.result is c.push.new.self (value_of c.args.value)
+    (c.push.ensures.value_behind_the_others ∙ cond-true _ _ _ (taken c) ∙ ap (λ (x : AliasRow). with_value (value_of c.args.value) (alias_of x)) (sym is))
 
 pub invariant_of-self : goal.invariant_of-self
 invariant_of-self c =
@@ -50,3 +55,6 @@ invariant_of-self c =
 
 pub returns : goal.returns
 returns c = record { value_at_the_last_label = ap (λ (now_written : List Alias). with_aliases now_written (tables c.args.self.now)) (labels_then (goal.at.returns c).After-push) }
+
+pub unwrap-requires : goal.unwrap-requires
+unwrap-requires c = let there = taken (goal.at.unwrap-requires c).After-push in search rules
