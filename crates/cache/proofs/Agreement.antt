@@ -1,6 +1,6 @@
 -- What a cache holds goes on agreeing with the tree, and what a kind question does.
 use Rattle.std.proofs.Common.{◌≡◌, ℕ, zero, suc, ◌≤◌, Bool, true, false, cond, ◌&&◌, List, [], ◌∷◌, length, take, is_some, Some, None, Option, sym, refl, ap, ◌∙◌, subst, arith, length-take}
-use Rattle.std.proofs.lemmas.Bool.{le-leb}
+use Rattle.std.proofs.lemmas.Bool.{false≢true, le-leb}
 use Rattle.tree.specs.declared.answers.Kind.{Kind}
 use Rattle.cache.specs.Held.{Agrees, Asked}
 use Rattle.cache.specs.Seen.{Placed, Seen, fresh, holds, holds_text, recalled, remember, remember_text, renewed, renewed_as, room, without}
@@ -8,9 +8,6 @@ use Rattle.texts.specs.Parts.{parts, same_parts}
 use Rattle.texts.specs.Texts.{Text, fits}
 use Rattle.tree.specs.Meanings.{Path}
 use Rattle.cache.proofs.Paths.{same_means_equal}
-
-apart : {X : Type 0} → true ≡ false → X
-apart e = let z : ◌≡◌ {A = ℕ} 0 1 = cc in absurd (omega arith)
 
 module _ (p : Path) where
   holds_step : (b : Bool) (k : Kind) (h : Bool) (r : Option Kind) → h ≡ is_some r → cond b true h ≡ is_some (cond b (Some k) r)
@@ -38,7 +35,7 @@ module _ (p : Path) where
     agrees_step false e k r at is rest h = rest h
 
     pub agrees_recalled : (es : List Seen) (k : Kind) → Agrees tree es → recalled p es ≡ Some k → k ≡ tree p
-    agrees_recalled [] k a h = let z : ◌≡◌ {A = ℕ} 0 1 = cc in absurd (omega arith)
+    agrees_recalled [] k a h = cc
     agrees_recalled (e ∷ es) k a h = agrees_step (same_parts e.path p) e k (recalled p es) (same_means_equal e.path p) a.0 (agrees_recalled es k a.1) h
 
     without_step : (b : Bool) (e : Seen) (es ws : List Seen) → e.kind ≡ tree e.path → Agrees tree es → Agrees tree ws → Agrees tree (cond b es (e ∷ ws))
@@ -74,13 +71,13 @@ module _ (tree : Path → Kind) (t : Text) (es after : List Seen) (short : fits 
   asked_held k is new known left = record {
     now_held = now_is k is new;
     if_held = λ _. left;
-    if_not = λ h. apart (sym (held_is (Some k) known) ∙ h);
+    if_not = λ h. absurd (false≢true (sym h ∙ held_is (Some k) known));
   }
 
   -- it was not, and the host below was asked
   pub asked_not_held : {Left Passed : Type 0} (k : Kind) → k ≡ tree (parts t) → after ≡ remember (parts t) k es → recalled (parts t) es ≡ None → Passed → Asked tree t es after Left Passed
   asked_not_held k is new none passed = record {
     now_held = now_is k is new;
-    if_held = λ h. apart (sym h ∙ held_is None none);
+    if_held = λ h. absurd (false≢true (sym (held_is None none) ∙ h));
     if_not = λ _. passed;
   }

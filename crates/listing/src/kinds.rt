@@ -40,7 +40,7 @@ impl TryFrom<u16> for LineKind {
 
     ghost try_from_gives = { λ number r. r ≡ ok_or (line_kind number) Refusal.Kind };
 
-    /// The kind that an office gives this number.
+    /// The kind that an office gives this number; nothing asks a kind for its number, so they stand here alone.
     fn try_from(number: u16) -> Result<LineKind, Refusal>
         ensures kind_by_its_number { result ≡ ok_or (line_kind number) Refusal.Kind }
     {
@@ -64,9 +64,9 @@ impl LineKind {
     {
         match self {
             LineKind::Main => first <= MAX_MAIN && second == 0,
-            LineKind::Package | LineKind::Hash => 1 <= first
-                && first <= MAX_REQUEST
-                && second <= MAX_LEN,
+            LineKind::Package | LineKind::Hash => {
+                (1..=MAX_REQUEST).contains(&first) && second <= MAX_LEN
+            }
             _ => first <= MAX_LEN && second == 0,
         }
     }

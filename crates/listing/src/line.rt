@@ -4,15 +4,15 @@ ghost use Rattle.listing.specs.Rows.{is_main, is_manifest, kind_listed, row, row
 ghost use Rattle.listing.specs.Meanings.{asked, fits};
 
 use crate::kinds::{LineKind, Topic};
-use texts::{Text, same_bytes, same_path};
+use texts::{MAX_LEN, Text, same_bytes, same_path};
 use tree::{Kind, Way};
 
 /// A kind and two texts: a path or a main text and nothing, or a request and a path.
 #[derive(Clone, Copy)]
 pub struct Line {
     pub(crate) kind: LineKind,
-    pub(crate) first: Text<255>,
-    pub(crate) second: Text<255>,
+    pub(crate) first: Text<MAX_LEN>,
+    pub(crate) second: Text<MAX_LEN>,
 }
 
 impl Line {

@@ -7,10 +7,10 @@ ghost use Rattle.tree.specs.Meanings.{kind_of};
 use crate::answers::Kind;
 use crate::policy::Policy;
 use crate::traits::FileTree;
-use texts::Text;
+use texts::{MAX_LEN, Text};
 
 // Whether every restriction has exactly the path's bytes.
-fn passes_restrictions(restrictions: &[Text<255>], path: &[u8]) -> bool
+fn passes_restrictions(restrictions: &[Text<MAX_LEN>], path: &[u8]) -> bool
     ensures same_bytes_as_each_restriction { result ≡ unrestricted (map bytes_of restrictions.now) path.now }
 {
     restrictions
@@ -23,7 +23,7 @@ fn passes_restrictions(restrictions: &[Text<255>], path: &[u8]) -> bool
 pub fn is_acceptable<T: FileTree, P: Policy>(
     tree: &mut T,
     policy: &P,
-    restrictions: &[Text<255>],
+    restrictions: &[Text<MAX_LEN>],
     path: &[u8],
 ) -> bool
     requires sound { T.FileTree.sound tree.old }
