@@ -23,10 +23,8 @@ impl Listing {
         ensures place_of_the_first_that_fits { result ≡ place (asked topic text.now) (rows self.now) }
         ensures rows_from_there_decide { MatchOption result (deciding (asked topic text.now) (rows self.now) ≡ []) (DecidesAt (asked topic text.now) (rows self.now)) }
     {
-        self.lines
-            .as_slice()
-            .iter()
-            .position(|line| line.fits(topic, text))
+        let lines = self.lines.as_slice();
+        lines.iter().position(|line| line.fits(topic, text))
     }
 
     // How many main texts a manifest has whose next line is at `start`.
