@@ -1,61 +1,42 @@
 -- What is made of a request: by the form of its label, how long it is, and where it lies. Assumes nothing.
-use Rattle.std.proofs.Common.{◌≡◌, ℕ, ◌≤◌, Bool, true, false, cond, not, ◌||◌, eqb, leb, List, [], ◌∷◌, ◌++◌, length, take, drop, Some, None, Option, sym, refl, ap, ◌∙◌, arith}
-use Rattle.std.proofs.lemmas.List.{append-nil, take_at}
-use Rattle.std.proofs.lemmas.Bool.{cond-true, cond-false, le-leb, leb-true, not_from_false, or_parts}
-use Rattle.texts.specs.Texts.{Text, SLASH, buffer_with, fits, has, length_in}
+use Rattle.std.proofs.Common.{◌≡◌, ℕ, ◌<◌, ◌-◌, ◌+◌, ◌≤◌, Bool, true, false, cond, not, ◌||◌, eqb, leb, List, [], ◌∷◌, ◌++◌, length, take, drop, Some, None, Option, Result, sym, refl, ap, ◌∙◌, arith}
+use Rattle.std.proofs.lemmas.List.{append_assoc, append-nil, length-append, length-drop, length-take-le, take_at, take_rest}
+use Rattle.std.proofs.lemmas.Bool.{cond-true, cond-false, le-leb, le-ltb, leb-true, lt-leb, lt-ltb, not_from_false, or_parts}
+use Rattle.texts.specs.Texts.{Text, SLASH, buffer_with, fits, has, until}
+use Rattle.texts.proofs.ByteLoops.{has_until}
 use Rattle.texts.specs.Parts.{clean, parts}
 use Rattle.paths.specs.Joins.{climbs, join, joins, normalize, relative}
 use Rattle.paths.proofs.JoinLaws.{join_below, join_fits, normalize_clean}
 use Rattle.tree.specs.Meanings.{Meaning, is_file}
-use Rattle.alias.specs.declared.rewrite.Rewrite.{Rewrite}
-use Rattle.alias.specs.declared.rewrite.Rewrite.TheVariants as answer
-use Rattle.alias.specs.declared.rewrite.NewRequest.TheVariants as new
-use Rattle.alias.specs.Answers.{held_request, made_of, new_request, text_made, told, within}
+use Rattle.alias.specs.declared.rewrite.NewRequest.{NewRequest}
+use Rattle.alias.specs.declared.rewrite.TooLong.{TooLong}
+use Rattle.alias.specs.Answers.{held_request, new_request, text_made, told}
 use Rattle.alias.specs.Forms.{BACKSLASH, Form, STAR, before_star, behind_star, exact, form, goes_on, plain, wildcard}
 use Rattle.alias.specs.Laws.{LiesBelow, is_plain}
 use Rattle.alias.specs.Rewrites.{Rewritten, as_written, by_suffix, continued, continued_if, fitting, form_rewrites, joined_to, made, returns_to, rewritten, skipped, starred, starred_if, tailed_normal, too_long, trimmed}
 use Rattle.alias.proofs.Touching.{behind_there, plain_form}
 
--- a text that is trimmed goes on with the next byte
-pub trimmed_on : (s more : Text) (b : ℕ) → s ≡ b ∷ more → goes_on s ≡ true → trimmed s ≡ trimmed more
-trimmed_on s more b e h = ap trimmed e ∙ cond-true _ _ _ (ap goes_on (sym e) ∙ h)
+-- the first `*` of a value, at the place that was found
+module _ (v middle : Text) (p : ℕ) (at : p ≡ until STAR v) (low : p ≤ length v) where
+  pub star_none : p ≡ length v → as_written ≡ starred v middle
+  star_none e = sym (cond-false _ _ _ (has_until STAR v ∙ le-ltb (until STAR v) (length v) (omega arith)))
 
--- the first `*` of a value
-module _ (v middle : Text) where
-  pub starred_none : has STAR v ≡ false → starred v middle ≡ as_written
-  starred_none h = cond-false _ _ _ h
+  star_some : (p ≡ length v → ⊥) → starred v middle ≡ fitting (before_star v ++ (middle ++ behind_star v))
+  star_some e = cond-true _ _ _ (has_until STAR v ∙ lt-ltb (until STAR v) (length v) (omega arith))
 
-  pub starred_some : has STAR v ≡ true → starred v middle ≡ fitting (before_star v ++ (middle ++ behind_star v))
-  starred_some h = cond-true _ _ _ h
+  around : take p v ++ (middle ++ take (length v - (p + 1)) (drop (p + 1) v)) ≡ before_star v ++ (middle ++ behind_star v)
+  around = (λ i. take p v ++ (middle ++ take_rest v (p + 1) i)) ∙ ap (λ (n : ℕ). take n v ++ (middle ++ drop (n + 1) v)) at
 
--- a text that was written is the one that fits
-pub within_some : (x y : Text) → Some y ≡ within x → (y ≡ x) × (fits x ≡ true)
-within_some x y e = at (fits x) refl e
-  where
-    at : (b : Bool) → fits x ≡ b → Some y ≡ cond b (Some x) None → (y ≡ x) × (fits x ≡ true)
-    at true f g = (cc, f)
-    at false f g = absurd (let h : Some y ≡ None = g in cc)
+  pub star_made : (p ≡ length v → ⊥) → (t : Text) → t ≡ (take p v ++ middle) ++ take (length v - (p + 1)) (drop (p + 1) v) → length t ≤ 255 → made t ≡ starred v middle
+  star_made e t is h =
+      let same : t ≡ before_star v ++ (middle ++ behind_star v) = is ∙ append_assoc (take p v) middle _ ∙ around in
+      sym (star_some e ∙ ap fitting (sym same) ∙ cond-true _ _ _ (le-leb (length t) 255 h))
 
-pub within_none : (x : Text) → None ≡ within x → fits x ≡ false
-within_none x e = at (fits x) refl e
-  where
-    at : (b : Bool) → fits x ≡ b → None ≡ cond b (Some x) None → fits x ≡ false
-    at true f g = absurd (let h : None ≡ Some x = g in cc)
-    at false f g = f
-
--- the answer for a text that is made
-pub told_made : (x : Text) (n : ℕ) → made_of (length_in (Some x) n) ≡ told (made x) n
-told_made x n = at (leb (length x) n)
-  where
-    at : (b : Bool) → made_of (cond b (Some (length x)) None) ≡ cond b (answer.Again (new.Made (length x))) answer.TooLong
-    at true = refl
-    at false = refl
-
-pub fitting_made : (x : Text) → fits x ≡ true → fitting x ≡ made x
-fitting_made x h = cond-true _ _ _ h
-
-pub fitting_not : (x : Text) → fits x ≡ false → fitting x ≡ too_long
-fitting_not x h = cond-false _ _ _ h
+  pub star_too_long : (p ≡ length v → ⊥) → 255 < p + length middle + (length v - (p + 1)) → too_long ≡ starred v middle
+  star_too_long e h =
+      let x : Text = before_star v ++ (middle ++ behind_star v) in
+      let long : 255 < length x = omega (arith, ap length around, length-append (take p v) (middle ++ take (length v - (p + 1)) (drop (p + 1) v)), length-append middle (take (length v - (p + 1)) (drop (p + 1) v)), length-take-le p v low, length-take-le (length v - (p + 1)) (drop (p + 1) v) (omega (arith, length-drop (p + 1) v)), length-drop (p + 1) v) in
+      sym (star_some e ∙ cond-false _ _ _ (lt-leb (length x) 255 long))
 
 -- a text that is made has at most 255 bytes
 abbrev pub Short : Rewritten → Type 0
@@ -117,13 +98,13 @@ rewritten_short m l v r = at (returns_to v r)
     at false = form_short m (form l) v r
 
 -- with room for 255 bytes, what is handed out is the new request
-pub held_so : (x : Rewritten) (v : Text) (work work' : List ℕ) (a : Rewrite) → Short x → a ≡ told x (length work) → work' ≡ buffer_with (text_made x) work → 255 ≤ length work → held_request a v work' ≡ new_request v x
-held_so skipped v work work' a s e w h = ap (λ (b : Rewrite). held_request b v work') e
-held_so as_written v work work' a s e w h = ap (λ (b : Rewrite). held_request b v work') e
-held_so too_long v work work' a s e w h = ap (λ (b : Rewrite). held_request b v work') e
+pub held_so : (x : Rewritten) (v : Text) (work work' : List ℕ) (a : Result (Option (NewRequest ℕ)) TooLong) → Short x → a ≡ told x (length work) → work' ≡ buffer_with (text_made x) work → 255 ≤ length work → held_request a v work' ≡ new_request v x
+held_so skipped v work work' a s e w h = ap (λ (b : Result (Option (NewRequest ℕ)) TooLong). held_request b v work') e
+held_so as_written v work work' a s e w h = ap (λ (b : Result (Option (NewRequest ℕ)) TooLong). held_request b v work') e
+held_so too_long v work work' a s e w h = ap (λ (b : Result (Option (NewRequest ℕ)) TooLong). held_request b v work') e
 held_so (made t) v work work' a s e w h =
     let room : leb (length t) (length work) ≡ true = le-leb (length t) (length work) (omega arith) in
-    ap (λ (b : Rewrite). held_request b v work') (e ∙ cond-true _ _ _ room)
+    ap (λ (b : Result (Option (NewRequest ℕ)) TooLong). held_request b v work') (e ∙ cond-true _ _ _ room)
     ∙ ap Some (ap (take (length t)) (w ∙ cond-true _ _ _ room) ∙ take_at t (drop (length t) work) (length t) refl)
 
 -- what stands behind leading slashes is relative

@@ -1,69 +1,67 @@
-use Rattle.std.proofs.Common.{◌≡◌, ℕ, ◌+◌, ◌-◌, ◌≤◌, true, false, ◌++◌, length, take, drop, Some, sym, ap, ◌∙◌, arith}
-use Rattle.std.proofs.lemmas.List.{take_rest}
-use Rattle.std.proofs.lemmas.Bool.{lt-ltb, le-ltb}
-use Rattle.texts.specs.Texts.{Text, buffer_with, has, length_in, until}
-use Rattle.texts.proofs.ByteLoops.{has_until}
-use Rattle.alias.specs.Answers.{made_of, text_made, told, within}
-use Rattle.alias.specs.Forms.{STAR, before_star, behind_star}
-use Rattle.alias.specs.Rewrites.{Rewritten, made, starred, too_long}
-use Rattle.alias.proofs.Rewriting.{fitting_made, fitting_not, starred_none, starred_some, told_made, within_none, within_some}
+use Rattle.std.proofs.Common.{◌≡◌, ◌+◌, ◌-◌, ◌++◌, length, take, drop, sym, ap, ◌∙◌, arith, rules}
+use Rattle.std.proofs.lemmas.Bool.{leb-false}
+use Rattle.std.proofs.lemmas.List.{length-append, length-drop, length-take-le}
+use Rattle.texts.specs.Held.{bytes_of}
+use Rattle.texts.specs.Texts.{Text}
+use Rattle.texts.proofs.Buffers.{text_within}
+use Rattle.alias.specs.Answers.{requested}
+use Rattle.alias.specs.Rewrites.{too_long}
+use Rattle.alias.proofs.Rewriting.{star_made, star_none, star_too_long}
 use Rattle.alias.proofs.rewrite.replace_star.Goals as goal
-
--- the star of a value, at the place that was found
-module _ (v middle : Text) (p : ℕ) (at : p ≡ until STAR v) where
-  no_star : p ≡ length v → has STAR v ≡ false
-  no_star e = has_until STAR v ∙ le-ltb (until STAR v) (length v) (omega arith)
-
-  a_star : (p ≡ length v → ⊥) → p ≤ length v → has STAR v ≡ true
-  a_star e h = has_until STAR v ∙ lt-ltb (until STAR v) (length v) (omega arith)
-
-  around : take (p - 0) v ++ (middle ++ take (length v - (p + 1)) (drop (p + 1) v)) ≡ before_star v ++ (middle ++ behind_star v)
-  around =
-      let whole : p - 0 ≡ p = omega arith in
-      (λ i. take (whole i) v ++ (middle ++ take_rest v (p + 1) i)) ∙ ap (λ (n : ℕ). take n v ++ (middle ++ drop (n + 1) v)) at
 
 pub returns-then-star-value : goal.returns-then-star-value
 returns-then-star-value c =
-    let v = c.args.value.now in
-    let none = starred_none v c.args.middle.now (no_star v c.args.middle.now _ c.position-star.ensures.stands_before_the_first c.if-star-value.true) in
-    record {
-      first_star_replaced = sym (ap (λ (x : Rewritten). told x (length c.args.work.now)) none);
-      made_text_in_front = sym (ap (λ (x : Rewritten). buffer_with (text_made x) c.args.work.now) none);
-    }
-
-pub returns-in-Some : goal.returns-in-Some
-returns-in-Some c =
-    let v = c.args.value.now in
-    let work = c.args.work.now in
-    let text = c.write_around.new.text in
-    let len = c.in-Some.len in
     let p = c.position-star.ensures in
-    let x = before_star v ++ (c.args.middle.now ++ behind_star v) in
-    let written = within_some x (take len text) (c.in-Some.ensures.text_in_front ∙ ap within (around v c.args.middle.now _ p.stands_before_the_first)) in
-    let is : starred v c.args.middle.now ≡ made x = starred_some v c.args.middle.now (a_star v c.args.middle.now _ p.stands_before_the_first c.if-star-value.false p.within_the_text) ∙ fitting_made x written.1 in
-    let whole : len - 0 ≡ len = omega arith in
-    let copied : take (len - 0) text ≡ x = ap (λ (n : ℕ). take n text) whole ∙ written.0 in
+    record { first_star_replaced = star_none c.args.value.now c.args.middle.now _ p.stands_before_the_first p.within_the_text c.if-star-value.true }
+
+pub returns-in_err-push_text : goal.returns-in_err-push_text
+returns-in_err-push_text c =
+    let v = c.args.value.now in
+    let p = c.position-star.ensures in
+    let refused : requested c.from_residual.result ≡ too_long = search rules in
+    let long = leb-false _ _ (sym c.in_err-push_text.ensures.refused_only_without_room) in
     record {
       first_star_replaced =
-          c.made.ensures.made_if_it_fits
-          ∙ ap made_of (c.copy_text.ensures.length_if_it_fits ∙ ap (λ (t : Text). length_in (Some t) (length work)) copied)
-          ∙ told_made x (length work)
-          ∙ sym (ap (λ (y : Rewritten). told y (length work)) is);
-      made_text_in_front =
-          c.copy_text.ensures.bytes_beyond_stay
-          ∙ ap (λ (t : Text). buffer_with (Some t) work) copied
-          ∙ sym (ap (λ (y : Rewritten). buffer_with (text_made y) work) is);
+          refused
+          ∙ star_too_long v c.args.middle.now _ p.stands_before_the_first p.within_the_text c.if-star-value.false
+          (omega (arith, long, ap length c.empty-text.ensures.no_bytes, length-take-le c.position-star.result v p.within_the_text));
     }
 
-pub returns-in-None : goal.returns-in-None
-returns-in-None c =
+pub returns-in_err-push_text-2 : goal.returns-in_err-push_text-2
+returns-in_err-push_text-2 c =
     let v = c.args.value.now in
-    let work = c.args.work.now in
     let p = c.position-star.ensures in
-    let x = before_star v ++ (c.args.middle.now ++ behind_star v) in
-    let long = within_none x (c.in-None.ensures.text_in_front ∙ ap within (around v c.args.middle.now _ p.stands_before_the_first)) in
-    let is : starred v c.args.middle.now ≡ too_long = starred_some v c.args.middle.now (a_star v c.args.middle.now _ p.stands_before_the_first c.if-star-value.false p.within_the_text) ∙ fitting_not x long in
+    let refused : requested c.from_residual-in_err-push_text-2.result ≡ too_long = search rules in
+    let long = leb-false _ _ (sym c.in_err-push_text-2.ensures.refused_only_without_room) in
     record {
-      first_star_replaced = sym (ap (λ (y : Rewritten). told y (length work)) is);
-      made_text_in_front = sym (ap (λ (y : Rewritten). buffer_with (text_made y) work) is);
+      first_star_replaced =
+          refused
+          ∙ star_too_long v c.args.middle.now _ p.stands_before_the_first p.within_the_text c.if-star-value.false
+          (omega (arith, long, ap length c.in_ok-push_text.ensures.bytes_after, ap length c.empty-text.ensures.no_bytes, length-append (bytes_of c.empty-text.result) (take c.position-star.result v), length-take-le c.position-star.result v p.within_the_text));
     }
+
+pub returns-in_err-push_text-3 : goal.returns-in_err-push_text-3
+returns-in_err-push_text-3 c =
+    let v = c.args.value.now in
+    let at = c.position-star.result in
+    let p = c.position-star.ensures in
+    let refused : requested c.from_residual-in_err-push_text-3.result ≡ too_long = search rules in
+    let long = leb-false _ _ (sym c.in_err-push_text-3.ensures.refused_only_without_room) in
+    record {
+      first_star_replaced =
+          refused
+          ∙ star_too_long v c.args.middle.now _ p.stands_before_the_first p.within_the_text c.if-star-value.false
+          (omega (arith, long, ap length c.in_ok-push_text-2.ensures.bytes_after, length-append (bytes_of c.push_text.new.self) c.args.middle.now, ap length c.in_ok-push_text.ensures.bytes_after, ap length c.empty-text.ensures.no_bytes, length-append (bytes_of c.empty-text.result) (take at v), length-take-le at v p.within_the_text, length-take-le (length v - (at + 1)) (drop (at + 1) v) (omega (arith, length-drop (at + 1) v))));
+    }
+
+pub returns : goal.returns
+returns c =
+    let v = c.args.value.now in
+    let middle = c.args.middle.now in
+    let at = c.position-star.result in
+    let p = c.position-star.ensures in
+    let behind = take (length v - (at + 1)) (drop (at + 1) v) in
+    let text : bytes_of c.push_text-3.new.self ≡ (take at v ++ middle) ++ behind =
+    c.in_ok-push_text-3.ensures.bytes_after
+    ∙ ap (λ (t : Text). t ++ behind) (c.in_ok-push_text-2.ensures.bytes_after ∙ ap (λ (t : Text). t ++ middle) (c.in_ok-push_text.ensures.bytes_after ∙ ap (λ (t : Text). t ++ take at v) c.empty-text.ensures.no_bytes)) in
+    record { first_star_replaced = star_made v middle at p.stands_before_the_first p.within_the_text c.if-star-value.false _ text (text_within c.push_text-3.new.self) }
