@@ -1,6 +1,6 @@
 // The labels tried on a request, one attempt after the other.
 ghost use Rattle.std.specs.Prelude.{◌≡◌, ◌<◌, ◌≤◌, ◌-◌, ◌+◌, Bool, false, List, [], ◌∷◌, IfSome, MatchOption, Some, map, drop, length, take};
-ghost use Rattle.texts.specs.Texts.{Text, fronted};
+ghost use Rattle.texts.specs.Texts.{Text as Bytes, fronted};
 ghost use Rattle.std.specs.Option.{option_map};
 ghost use Rattle.settings.specs.Rows.{alias_of, value_of};
 ghost use Rattle.settings.specs.Tables.{Alias};
@@ -13,7 +13,7 @@ use crate::label::{key, key_matches};
 use crate::rewrite::{NewRequest, TooLong, rewrite_value};
 use paths::joined;
 use settings::{AliasRow, AliasValue};
-use texts::{MAX_LEN, copy_text};
+use texts::{MAX_LEN, Text, copy_text};
 use tree::FileTree;
 
 /// What comes next for a request that a label touches; a text has so many bytes at the front of the work text.
@@ -30,7 +30,7 @@ pub enum Attempt<T = usize> {
 }
 
 // An attempt whose text is held by value.
-type HeldAttempt = Attempt<texts::Text<MAX_LEN>>;
+type HeldAttempt = Attempt<Text<MAX_LEN>>;
 
 /// How far the labels were tried for a request: the label that was come to, which of its values comes next, and whether all is done.
 #[derive(Clone, Copy)]
@@ -58,7 +58,7 @@ impl HeldAttempt {
     // The attempt with its text at the front of `work`, which holds any text.
     fn written(self, work: &mut [u8]) -> Attempt
         requires room_for_a_text { 255 ≤ length work.old }
-        ensures says_the_same { (v l r : Text) → said_by v l r work.new result ≡ says v l r self }
+        ensures says_the_same { (v l r : Bytes) → said_by v l r work.new result ≡ says v l r self }
         ensures only_its_text_is_written { work.new ≡ fronted (take (written_length (Some result)) work.new) work.old }
     {
         match self {
@@ -73,7 +73,7 @@ impl HeldAttempt {
 impl<'a> Import<'a> {
     // The attempt of a label that ignores it.
     fn ignored(self, label: &[u8]) -> HeldAttempt
-        ensures label_joined_to_the_directory { (v r : Text) → says v label.now r result ≡ ignoring self.entry.directory.now label.now }
+        ensures label_joined_to_the_directory { (v r : Bytes) → says v label.now r result ≡ ignoring self.entry.directory.now label.now }
     {
         match joined(self.directory, key(label)) {
             Some(path) => Attempt::Ignored(path),
@@ -131,7 +131,7 @@ impl Progress {
     /// Before any label was tried.
     #[tactic(auto, using(crate::proofs::Attempting::left_first))]
     pub fn new() -> Progress
-        ensures every_attempt_is_left { (m : Meaning) (dir r : Text) (aliases : List Alias) → left m dir r aliases result ≡ attempts m dir r aliases }
+        ensures every_attempt_is_left { (m : Meaning) (dir r : Bytes) (aliases : List Alias) → left m dir r aliases result ≡ attempts m dir r aliases }
     {
         Progress {
             label: 0,
@@ -183,7 +183,7 @@ impl Progress {
             *self = Progress {
                 label,
                 value: 0,
-                done: self.done,
+                ..*self
             };
         }
     }

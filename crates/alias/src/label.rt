@@ -1,10 +1,11 @@
 // The forms of labels, and which requests a label touches.
-ghost use Rattle.std.specs.Prelude.{◌≡◌};
-ghost use Rattle.alias.specs.Forms.{first_byte_fits, form, form_touches, goes_on, key as key_of, touches};
+ghost use Rattle.std.specs.Prelude.{◌≡◌, true, false, MatchOption};
+ghost use Rattle.texts.specs.Texts.{has};
+ghost use Rattle.alias.specs.Forms.{STAR, before_star, behind_star, first_byte_fits, form, form_touches, goes_on, key as key_of, touches};
 ghost use Rattle.alias.specs.Labels.{formed};
 ghost use Rattle.alias.specs.Laws.{ExactTouchesItself, PlainTouchesWhatItContinues};
 
-use texts::{ends_in, position};
+use texts::ends_in;
 
 /// The form of a label, with the texts that a request is compared with.
 #[derive(Clone, Copy)]
@@ -34,21 +35,26 @@ pub fn key(label: &[u8]) -> &[u8]
     }
 }
 
+// What stands before the first `*` of a text, and what stands behind it; none without a `*`.
+pub(crate) fn split_star(text: &[u8]) -> Option<(&[u8], &[u8])>
+    ensures around_the_first_star { MatchOption result (has STAR text.now ≡ false) (λ x. (has STAR text.now ≡ true) × (x.0.now ≡ before_star text.now) × (x.1.now ≡ behind_star text.now)) }
+{
+    let star = text.iter().position(|byte| *byte == b'*')?;
+    Some((&text[..star], &text[star + 1..]))
+}
+
 impl<'a> AliasMatchKind<'a> {
     /// The form of a label.
+    #[tactic(auto, unfolding(crate::specs::Forms::form))]
     pub fn of(label: &'a [u8]) -> AliasMatchKind<'a>
         ensures form_of_the_label { formed result ≡ form label.now }
     {
         if ends_in(label, b'$') {
             return AliasMatchKind::Exact(key(label));
         }
-        let star = position(label, b'*');
-        if star == label.len() {
-            return AliasMatchKind::Prefix(label);
-        }
-        AliasMatchKind::Wildcard {
-            prefix: &label[..star],
-            suffix: &label[star + 1..],
+        match split_star(label) {
+            Some((prefix, suffix)) => AliasMatchKind::Wildcard { prefix, suffix },
+            None => AliasMatchKind::Prefix(label),
         }
     }
 

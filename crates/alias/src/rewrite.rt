@@ -11,10 +11,10 @@ ghost use Rattle.alias.specs.Laws.{LiesBelowItsValue};
 ghost use Rattle.alias.specs.Rewrites.{by_suffix, continued, form_rewrites, returns_to, rewritten, starred, tailed_normal, trimmed};
 ghost use Rattle.alias.specs.Forms.{behind};
 
-use crate::label::AliasMatchKind;
+use crate::label::{AliasMatchKind, split_star};
 use paths::{joined, normalized};
 use stack::Full;
-use texts::{MAX_LEN, Place, Text, copy_text, position};
+use texts::{MAX_LEN, Place, Text, copy_text};
 use tree::{FileTree, Kind};
 
 /// A new request: the value as it was written, or a text that was made, which has so many bytes at the front of the work text.
@@ -87,14 +87,13 @@ fn trim_start(tail: &[u8]) -> &[u8]
 fn replace_star(value: &[u8], middle: &[u8]) -> Requested
     ensures first_star_replaced { requested result ≡ starred value.now middle.now }
 {
-    let star = position(value, b'*');
-    if star == value.len() {
+    let Some((before, behind)) = split_star(value) else {
         return Ok(NewRequest::Value);
-    }
+    };
     let mut text = Text::empty();
-    text.push_text(&value[..star])?;
+    text.push_text(before)?;
     text.push_text(middle)?;
-    text.push_text(&value[star + 1..])?;
+    text.push_text(behind)?;
     Ok(NewRequest::Made(text))
 }
 
