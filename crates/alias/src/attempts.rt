@@ -16,7 +16,7 @@ use settings::{AliasRow, AliasValue};
 use texts::{MAX_LEN, Text, copy_text};
 use tree::FileTree;
 
-/// What comes next for a request that a label touches; a text has so many bytes at the front of the work text.
+/// What comes next for a request that a label touches; an answer gives a text as so many bytes at the front of the work text.
 #[derive(Clone, Copy, PartialEq, Eq, Debug)]
 pub enum Attempt<T = usize> {
     /// A value gives another request.

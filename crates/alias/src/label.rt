@@ -26,6 +26,7 @@ fn goes_on(text: &[u8]) -> bool
 }
 
 /// The label without its final `$`.
+#[tactic(auto, using(texts::proofs::ByteLoops::ends_at))]
 pub fn key(label: &[u8]) -> &[u8]
     ensures label_without_its_dollar { result.now ≡ key_of label.now }
 {

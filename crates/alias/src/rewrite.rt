@@ -17,7 +17,7 @@ use stack::Full;
 use texts::{MAX_LEN, Place, Text, copy_text};
 use tree::{FileTree, Kind};
 
-/// A new request: the value as it was written, or a text that was made, which has so many bytes at the front of the work text.
+/// A new request: the value as it was written, or a text that was made; an answer gives that as so many bytes at the front of the work text.
 #[derive(Clone, Copy, PartialEq, Eq, Debug)]
 pub enum NewRequest<T = usize> {
     Value,
