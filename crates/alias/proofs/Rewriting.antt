@@ -1,130 +1,17 @@
--- What is made of a request: by the form of its label, how long it is, and where it lies. Assumes nothing.
-use Rattle.std.proofs.Common.{◌≡◌, ℕ, ◌≤◌, Bool, true, false, cond, not, ◌||◌, eqb, leb, List, [], ◌∷◌, ◌++◌, length, take, drop, Some, None, Option, sym, refl, ap, ◌∙◌, arith}
-use Rattle.std.proofs.lemmas.List.{append-nil, take_at}
-use Rattle.std.proofs.lemmas.Bool.{cond-true, cond-false, le-leb, leb-true, not_from_false, or_parts}
-use Rattle.texts.specs.Texts.{Text, SLASH, buffer_with, fits, has, length_in}
+-- Where lies what is made of a request. Assumes nothing.
+use Rattle.std.proofs.Common.{◌≡◌, ℕ, Bool, true, false, cond, not, ◌||◌, eqb, [], ◌∷◌, ◌++◌, Some, None, sym, refl, ap, ◌∙◌}
+use Rattle.std.proofs.lemmas.List.{append-nil}
+use Rattle.std.proofs.lemmas.Bool.{not_from_false, or_parts}
+use Rattle.texts.specs.Texts.{Text, SLASH}
 use Rattle.texts.specs.Parts.{clean, parts}
 use Rattle.paths.specs.Joins.{climbs, join, joins, normalize, relative}
-use Rattle.paths.proofs.JoinLaws.{join_below, join_fits, normalize_clean}
+use Rattle.paths.proofs.JoinLaws.{join_below, normalize_clean}
 use Rattle.tree.specs.Meanings.{Meaning, is_file}
-use Rattle.alias.specs.declared.rewrite.Rewrite.{Rewrite}
-use Rattle.alias.specs.declared.rewrite.Rewrite.TheVariants as answer
-use Rattle.alias.specs.declared.rewrite.NewRequest.TheVariants as new
-use Rattle.alias.specs.Answers.{held_request, made_of, new_request, text_made, told, within}
-use Rattle.alias.specs.Forms.{BACKSLASH, Form, STAR, before_star, behind_star, exact, form, goes_on, plain, wildcard}
+use Rattle.alias.specs.Answers.{new_request}
+use Rattle.alias.specs.Forms.{BACKSLASH, Form, form, goes_on}
 use Rattle.alias.specs.Laws.{LiesBelow, is_plain}
-use Rattle.alias.specs.Rewrites.{Rewritten, as_written, by_suffix, continued, continued_if, fitting, form_rewrites, joined_to, made, returns_to, rewritten, skipped, starred, starred_if, tailed_normal, too_long, trimmed}
+use Rattle.alias.specs.Rewrites.{continued, continued_if, form_rewrites, made, returns_to, rewritten, skipped, tailed_normal, too_long, trimmed}
 use Rattle.alias.proofs.Touching.{behind_there, plain_form}
-
--- a text that is trimmed goes on with the next byte
-pub trimmed_on : (s more : Text) (b : ℕ) → s ≡ b ∷ more → goes_on s ≡ true → trimmed s ≡ trimmed more
-trimmed_on s more b e h = ap trimmed e ∙ cond-true _ _ _ (ap goes_on (sym e) ∙ h)
-
--- the first `*` of a value
-module _ (v middle : Text) where
-  pub starred_none : has STAR v ≡ false → starred v middle ≡ as_written
-  starred_none h = cond-false _ _ _ h
-
-  pub starred_some : has STAR v ≡ true → starred v middle ≡ fitting (before_star v ++ (middle ++ behind_star v))
-  starred_some h = cond-true _ _ _ h
-
--- a text that was written is the one that fits
-pub within_some : (x y : Text) → Some y ≡ within x → (y ≡ x) × (fits x ≡ true)
-within_some x y e = at (fits x) refl e
-  where
-    at : (b : Bool) → fits x ≡ b → Some y ≡ cond b (Some x) None → (y ≡ x) × (fits x ≡ true)
-    at true f g = (cc, f)
-    at false f g = absurd (let h : Some y ≡ None = g in cc)
-
-pub within_none : (x : Text) → None ≡ within x → fits x ≡ false
-within_none x e = at (fits x) refl e
-  where
-    at : (b : Bool) → fits x ≡ b → None ≡ cond b (Some x) None → fits x ≡ false
-    at true f g = absurd (let h : None ≡ Some x = g in cc)
-    at false f g = f
-
--- the answer for a text that is made
-pub told_made : (x : Text) (n : ℕ) → made_of (length_in (Some x) n) ≡ told (made x) n
-told_made x n = at (leb (length x) n)
-  where
-    at : (b : Bool) → made_of (cond b (Some (length x)) None) ≡ cond b (answer.Again (new.Made (length x))) answer.TooLong
-    at true = refl
-    at false = refl
-
-pub fitting_made : (x : Text) → fits x ≡ true → fitting x ≡ made x
-fitting_made x h = cond-true _ _ _ h
-
-pub fitting_not : (x : Text) → fits x ≡ false → fitting x ≡ too_long
-fitting_not x h = cond-false _ _ _ h
-
--- a text that is made has at most 255 bytes
-abbrev pub Short : Rewritten → Type 0
-Short skipped = Unit {0}
-Short as_written = Unit {0}
-Short (made t) = length t ≤ 255
-Short too_long = Unit {0}
-
-fitting_short : (x : Text) → Short (fitting x)
-fitting_short x = at (fits x) refl
-  where
-    at : (b : Bool) → fits x ≡ b → Short (cond b (made x) too_long)
-    at true h = leb-true (length x) 255 h
-    at false h = tt
-
-joined_short : (n t : Text) → Short (joined_to n t)
-joined_short n t = at (joins n t) refl
-  where
-    at : (b : Bool) → joins n t ≡ b → Short (cond b (made (join n t)) too_long)
-    at true h = join_fits n t h
-    at false h = tt
-
-starred_short : (v : Text) (m : Option Text) → Short (starred_if v m)
-starred_short v None = tt
-starred_short v (Some m) = at (has STAR v)
-  where
-    at : (b : Bool) → Short (cond b (fitting (before_star v ++ (m ++ behind_star v))) as_written)
-    at true = fitting_short _
-    at false = tt
-
-suffix_short : (v s : Text) (m : Option Text) → Short (by_suffix v s m)
-suffix_short v s None = tt
-suffix_short v s (Some m) = starred_short v _
-
-tailed_short : (n t : Text) → Short (tailed_normal n t)
-tailed_short n [] = tt
-tailed_short n (b ∷ t) = joined_short n (b ∷ t)
-
-continued_short : (m : Meaning) (v : Text) (t : Option Text) → Short (continued_if m v t)
-continued_short m v None = tt
-continued_short m v (Some []) = tt
-continued_short m v (Some (b ∷ t)) = at (is_file (m.kind (parts (normalize v))))
-  where
-    at : (f : Bool) → Short (cond f skipped (tailed_normal (normalize v) (trimmed (b ∷ t))))
-    at true = tt
-    at false = tailed_short _ _
-
-form_short : (m : Meaning) (f : Form) (v r : Text) → Short (form_rewrites m f v r)
-form_short m (exact k) v r = tt
-form_short m (wildcard p s) v r = suffix_short v s _
-form_short m (plain k) v r = continued_short m v _
-
-pub rewritten_short : (m : Meaning) (l v r : Text) → Short (rewritten m l v r)
-unfolding rewritten
-rewritten_short m l v r = at (returns_to v r)
-  where
-    at : (b : Bool) → Short (cond b skipped (form_rewrites m (form l) v r))
-    at true = tt
-    at false = form_short m (form l) v r
-
--- with room for 255 bytes, what is handed out is the new request
-pub held_so : (x : Rewritten) (v : Text) (work work' : List ℕ) (a : Rewrite) → Short x → a ≡ told x (length work) → work' ≡ buffer_with (text_made x) work → 255 ≤ length work → held_request a v work' ≡ new_request v x
-held_so skipped v work work' a s e w h = ap (λ (b : Rewrite). held_request b v work') e
-held_so as_written v work work' a s e w h = ap (λ (b : Rewrite). held_request b v work') e
-held_so too_long v work work' a s e w h = ap (λ (b : Rewrite). held_request b v work') e
-held_so (made t) v work work' a s e w h =
-    let room : leb (length t) (length work) ≡ true = le-leb (length t) (length work) (omega arith) in
-    ap (λ (b : Rewrite). held_request b v work') (e ∙ cond-true _ _ _ room)
-    ∙ ap Some (ap (take (length t)) (w ∙ cond-true _ _ _ room) ∙ take_at t (drop (length t) work) (length t) refl)
 
 -- what stands behind leading slashes is relative
 trimmed_relative : (t u : Text) (c : ℕ) → trimmed t ≡ c ∷ u → relative (c ∷ u) ≡ true
@@ -173,15 +60,3 @@ module _ (m : Meaning) (l v r tail : Text) (p : is_plain l ≡ true) (c : clean 
       at : (b : Bool) → form_rewrites m (form l) v r ≡ continued m v tail → new_request v (cond b skipped (form_rewrites m (form l) v r)) ≡ Some t → LiesBelow v t
       at true f g = absurd (let h : None ≡ Some t = g in cc)
       at false f g = continued_below tail t refl (ap (new_request v) (sym f) ∙ g)
-
--- the two ways of a value, as the code finds them
-module _ (m : Meaning) (l v r t : Text) (b : Bool) (bytes : t ≡ v) (tested : b ≡ returns_to t r) where
-  pub rewritten_not : b ≡ true → skipped ≡ rewritten m l v r
-  unfolding rewritten
-  rewritten_not h = sym (cond-true _ _ _ (ap (λ (s : Text). returns_to s r) (sym bytes) ∙ sym tested ∙ h))
-
-  pub rewritten_by : b ≡ false → (f : Form) → f ≡ form l → form_rewrites m f v r ≡ rewritten m l v r
-  unfolding rewritten
-  rewritten_by h f e =
-      ap (λ (k : Form). form_rewrites m k v r) e
-      ∙ sym (cond-false _ _ _ (ap (λ (s : Text). returns_to s r) (sym bytes) ∙ sym tested ∙ h))

@@ -1,5 +1,5 @@
 -- What a label touches, by its form. Assumes nothing.
-use Rattle.std.proofs.Common.{◌≡◌, ◌↔◌, Bool, true, false, not, ◌||◌, [], ◌∷◌, ◌++◌, length, drop, Some, None, sym, refl, ap, ◌∙◌, inl, inr, ⊎_elim}
+use Rattle.std.proofs.Common.{◌≡◌, ◌↔◌, Bool, true, false, not, ◌||◌, [], ◌∷◌, ◌++◌, length, drop, Some, sym, refl, ap, ◌∙◌, inl, inr, ⊎_elim}
 use Rattle.std.specs.List.{starts_with}
 use Rattle.std.specs.Prelude.{nat_eq}
 use Rattle.std.specs.Str.{bytes_eq}
@@ -9,17 +9,13 @@ use Rattle.std.proofs.lemmas.Bool.{and_parts, cases_Bool, cond-true, cond-false,
 use Rattle.std.proofs.lemmas.Bool.Decides.{Decides-eqb}
 use Rattle.std.proofs.lemmas.Slice.Eq.{bytes_eq-Decides, starts_is}
 use Rattle.texts.specs.Texts.{Text, empty, ends, has}
-use Rattle.alias.specs.Forms.{DOLLAR, STAR, Form, before_star, behind, behind_star, ends_or_goes_on, exact, form, form_touches, goes_on, key, plain, touches, wildcard}
+use Rattle.alias.specs.Forms.{DOLLAR, STAR, Form, behind, ends_or_goes_on, exact, form, form_touches, goes_on, key, plain, touches}
 use Rattle.alias.specs.Laws.{Continues, is_plain}
 
 module _ (l : Text) where
   pub exact_form : ends DOLLAR l ≡ true → form l ≡ exact (key l)
   unfolding form
   exact_form e = cond-true _ _ _ e
-
-  pub starred_form : ends DOLLAR l ≡ false → has STAR l ≡ true → form l ≡ wildcard (before_star l) (behind_star l)
-  unfolding form
-  starred_form e s = cond-false _ _ _ e ∙ cond-true _ _ _ s
 
   pub unstarred_form : ends DOLLAR l ≡ false → has STAR l ≡ false → form l ≡ plain l
   unfolding form
@@ -39,18 +35,6 @@ module _ (l r : Text) where
   behind_there tail e =
       cond-true _ _ _ ((starts_is Decides-eqb r l (starts_with nat_eq r l) refl).1 tail e)
       ∙ ap Some (ap (drop (length l)) e ∙ drop-append_seam l tail)
-
-  pub behind_is : (tail : Text) → behind l r ≡ Some tail → r ≡ l ++ tail
-  behind_is tail e = ⊎_elim
-      (λ (b : starts_with nat_eq r l ≡ true). begins_so b ∙ ap (λ (t : Text). l ++ t) (held (sym (cond-true _ _ _ b) ∙ e)))
-      (λ (b : starts_with nat_eq r l ≡ false). absurd (lost (sym (cond-false _ _ _ b) ∙ e)))
-      (cases_Bool (starts_with nat_eq r l))
-    where
-      held : {x y : Text} → Some x ≡ Some y → x ≡ y
-      held f = cc
-
-      lost : None ≡ Some tail → ⊥
-      lost f = cc
 
 empty_nil : (t : Text) → empty t ≡ true → t ≡ []
 empty_nil [] h = refl

@@ -1,129 +1,141 @@
 // The labels tried on a request, one attempt after the other.
-ghost use Rattle.std.specs.Prelude.{◌≡◌, ◌<◌, ◌≤◌, ◌-◌, ℕ, Bool, false, List, IfSome, Some, map, drop, length, take};
-ghost use Rattle.texts.specs.Texts.{Text, fronted};
+ghost use Rattle.std.specs.Prelude.{◌≡◌, ◌<◌, ◌≤◌, ◌-◌, ◌+◌, Bool, false, List, [], ◌∷◌, IfSome, MatchOption, Some, map, drop, length, take};
+ghost use Rattle.texts.specs.Texts.{Text as Bytes, fronted};
 ghost use Rattle.std.specs.Option.{option_map};
 ghost use Rattle.settings.specs.Rows.{alias_of, value_of};
 ghost use Rattle.settings.specs.Tables.{Alias};
 ghost use Rattle.tree.specs.Meanings.{Meaning};
 ghost use Rattle.alias.specs.Attempts.{Attempt as Tried, attempts, ignoring, value_attempt};
-ghost use Rattle.alias.specs.Left.{RowTaken, Taken, ValueFound, ends_search, first_value, gone_to, label_tried, left, row_left, row_said, said, said_by, value_text, value_tried, values_left, written_length};
+ghost use Rattle.alias.specs.Left.{RowTaken, Taken, ValueFound, ends_search, first_value, gone_to, label_tried, left, row_left, row_said, said, said_by, says, value_text, value_tried, values_left, written_length};
 ghost use Rattle.alias.specs.Laws.{UntouchingLabelChangesNothing};
 
 use crate::label::{key, key_matches};
-use crate::rewrite::{NewRequest, Rewrite, load_alias_value};
-use paths::normalize_with;
+use crate::rewrite::{NewRequest, TooLong, rewrite_value};
+use paths::joined;
 use settings::{AliasRow, AliasValue};
-use texts::MAX_LEN;
+use texts::{MAX_LEN, Text, copy_text};
 use tree::FileTree;
 
-/// What comes next for a request that a label touches.
+/// What comes next for a request that a label touches; an answer gives a text as so many bytes at the front of the work text.
 #[derive(Clone, Copy, PartialEq, Eq, Debug)]
-pub enum Attempt {
+pub enum Attempt<T = usize> {
     /// A value gives another request.
-    Again(NewRequest),
-    /// The label ignores the request; the path has so many bytes, at the front of the work text.
-    Ignored(usize),
+    Again(NewRequest<T>),
+    /// The label ignores the request, and this is its path.
+    Ignored(T),
     /// Values were tried, and none is left.
     Unmatched,
     /// A text would pass 255 bytes.
     TooLong,
 }
 
-/// How far the labels were tried for a request: the label that was come to, which of its values comes next, whether one was tried, and whether all is done.
+// An attempt whose text is held by value.
+type HeldAttempt = Attempt<Text<MAX_LEN>>;
+
+/// How far the labels were tried for a request: the label that was come to, which of its values comes next, and whether all is done.
 #[derive(Clone, Copy)]
 pub struct Progress {
     label: usize,
     value: usize,
-    tried: bool,
     done: bool,
 }
 
-impl Attempt {
+// A request from a directory.
+#[derive(Clone, Copy)]
+struct Import<'a> {
+    directory: &'a [u8],
+    request: &'a [u8],
+}
+
+impl HeldAttempt {
     // Whether nothing is tried behind it.
     fn is_last(self) -> bool
         ensures all_but_another_request { result ≡ ends_search self }
     {
+        !matches!(self, Attempt::Again(_))
+    }
+
+    // The attempt with its text at the front of `work`, which holds any text.
+    fn written(self, work: &mut [u8]) -> Attempt
+        requires room_for_a_text { 255 ≤ length work.old }
+        ensures says_the_same { (v l r : Bytes) → said_by v l r work.new result ≡ says v l r self }
+        ensures only_its_text_is_written { work.new ≡ fronted (take (written_length (Some result)) work.new) work.old }
+    {
         match self {
-            Attempt::Again(_) => false,
-            Attempt::Ignored(_) | Attempt::Unmatched | Attempt::TooLong => true,
+            Attempt::Again(new) => Attempt::Again(new.written(work).unwrap()),
+            Attempt::Ignored(path) => Attempt::Ignored(copy_text(path.as_bytes(), work).unwrap()),
+            Attempt::Unmatched => Attempt::Unmatched,
+            Attempt::TooLong => Attempt::TooLong,
         }
     }
 }
 
-// The attempt of a label that ignores a request from a directory.
-fn ignored(directory: &[u8], label: &[u8], work: &mut [u8]) -> Attempt
-    requires room_for_a_text { 255 ≤ length work.old }
-    ensures label_joined_to_the_directory { (v r : Text) → said_by v label.now r work.new result ≡ ignoring directory.now label.now }
-    ensures only_its_text_is_written { work.new ≡ fronted (take (written_length (Some result)) work.new) work.old }
-{
-    match normalize_with(directory, key(label), work) {
-        Some(len) => Attempt::Ignored(len),
-        None => Attempt::TooLong,
-    }
-}
-
-// The attempt of one value of a label that touches the request; none if the value is passed over.
-fn try_value<T: FileTree>(
-    tree: &mut T,
-    label: &[u8],
-    value: &AliasValue,
-    directory: &[u8],
-    request: &[u8],
-    work: &mut [u8],
-) -> Option<Attempt>
-    requires sound { T.FileTree.sound tree.old }
-    requires room_for_a_text { 255 ≤ length work.old }
-    ensures attempt_of_the_value { option_map (said_by (value_text (value_of value.now)) label.now request.now work.new) result ≡ value_attempt (T.FileTree.meaning tree.old) directory.now request.now label.now (value_of value.now) }
-    ensures only_its_text_is_written { work.new ≡ fronted (take (written_length result) work.new) work.old }
-    ensures same_meaning { T.FileTree.meaning tree.new ≡ T.FileTree.meaning tree.old }
-    ensures still_sound { T.FileTree.sound tree.new }
-{
-    match value {
-        AliasValue::Ignore => Some(ignored(directory, label, work)),
-        AliasValue::Path(text) => match load_alias_value(tree, label, text, request, work) {
-            Rewrite::Skipped => None,
-            Rewrite::Again(new) => Some(Attempt::Again(new)),
-            Rewrite::TooLong => Some(Attempt::TooLong),
-        },
-    }
-}
-
-// The first attempt among the values of a label from one of them on, with the place of its value.
-fn next_value<T: FileTree>(
-    tree: &mut T,
-    row: &AliasRow,
-    from: usize,
-    directory: &[u8],
-    request: &[u8],
-    work: &mut [u8],
-) -> Option<(usize, Attempt)>
-    requires sound { T.FileTree.sound tree.old }
-    requires room_for_a_text { 255 ≤ length work.old }
-    ensures first_value_that_is_not_passed_over { (tried : Bool) (later : List Tried) → ValueFound (T.FileTree.meaning tree.old) directory.now request.now (alias_of row.now) (drop from (alias_of row.now).values) work.new tried later result }
-    ensures place_among_four { IfSome result (λ x. x.0 < 4) }
-    ensures only_its_text_is_written { work.new ≡ fronted (take (written_length (option_map (λ x. x.1) result)) work.new) work.old }
-    ensures same_meaning { T.FileTree.meaning tree.new ≡ T.FileTree.meaning tree.old }
-    ensures still_sound { T.FileTree.sound tree.new }
-{
-    let label = row.label();
-    let values = row.values();
-    for i in from..values.len() {
-        if let Some(attempt) = try_value(tree, label, &values[i], directory, request, work) {
-            return Some((i, attempt));
+impl<'a> Import<'a> {
+    // The attempt of a label that ignores it.
+    fn ignored(self, label: &[u8]) -> HeldAttempt
+        ensures label_joined_to_the_directory { (v r : Bytes) → says v label.now r result ≡ ignoring self.entry.directory.now label.now }
+    {
+        match joined(self.directory, key(label)) {
+            Some(path) => Attempt::Ignored(path),
+            None => Attempt::TooLong,
         }
     }
-    None
+
+    // The attempt of one value of a label that touches it; none if the value is passed over.
+    fn try_value<T: FileTree>(
+        self,
+        tree: &mut T,
+        label: &[u8],
+        value: &AliasValue,
+    ) -> Option<HeldAttempt>
+        requires sound { T.FileTree.sound tree.old }
+        ensures attempt_of_the_value { option_map (says (value_text (value_of value.now)) label.now self.entry.request.now) result ≡ value_attempt (T.FileTree.meaning tree.old) self.entry.directory.now self.entry.request.now label.now (value_of value.now) }
+        ensures same_meaning { T.FileTree.meaning tree.new ≡ T.FileTree.meaning tree.old }
+        ensures still_sound { T.FileTree.sound tree.new }
+    {
+        match value {
+            AliasValue::Ignore => Some(self.ignored(label)),
+            AliasValue::Path(text) => match rewrite_value(tree, label, text, self.request)? {
+                Ok(new) => Some(Attempt::Again(new)),
+                Err(TooLong) => Some(Attempt::TooLong),
+            },
+        }
+    }
+
+    // The first attempt among the values of a label from one of them on, with the place of its value.
+    fn next_value<T: FileTree>(
+        self,
+        tree: &mut T,
+        row: &AliasRow,
+        from: usize,
+    ) -> Option<(usize, HeldAttempt)>
+        requires sound { T.FileTree.sound tree.old }
+        ensures first_value_that_is_not_passed_over { (tried : Bool) (later : List Tried) → ValueFound (T.FileTree.meaning tree.old) self.entry.directory.now self.entry.request.now (alias_of row.now) (drop from (alias_of row.now).values) tried later result }
+        ensures place_among_four { IfSome result (λ x. x.0 < 4) }
+        ensures same_meaning { T.FileTree.meaning tree.new ≡ T.FileTree.meaning tree.old }
+        ensures still_sound { T.FileTree.sound tree.new }
+    {
+        let label = row.label();
+        let values = row.values();
+        // The project goes through labels and their values by an index.
+        for i in from..values.len() {
+            if let Some(attempt) = self.try_value(tree, label, &values[i]) {
+                return Some((i, attempt));
+            }
+        }
+        None
+    }
 }
 
 impl Progress {
     /// Before any label was tried.
+    #[tactic(auto, using(crate::proofs::Attempting::left_first))]
     pub fn new() -> Progress
-        ensures every_attempt_is_left { (m : Meaning) (dir r : Text) (aliases : List Alias) → left m dir r aliases result ≡ attempts m dir r aliases }
+        ensures every_attempt_is_left { (m : Meaning) (dir r : Bytes) (aliases : List Alias) → left m dir r aliases result ≡ attempts m dir r aliases }
     {
         Progress {
             label: 0,
             value: 0,
-            tried: false,
             done: false,
         }
     }
@@ -135,14 +147,20 @@ impl Progress {
         self.label
     }
 
+    // The row of the label that was come to, if there is one.
+    fn row<'a>(&self, aliases: &'a [AliasRow]) -> Option<&'a AliasRow>
+        ensures row_at_the_place { MatchOption result (drop self.now.label (map alias_of aliases.now) ≡ []) (λ row. drop self.now.label (map alias_of aliases.now) ≡ alias_of row.now ∷ drop (self.now.label + 1) (map alias_of aliases.now)) }
+    {
+        aliases.get(self.label)
+    }
+
     /// The label that was come to.
     pub fn label<'a>(&self, aliases: &'a [AliasRow]) -> &'a [u8]
         ensures label_that_was_come_to { result.now ≡ label_tried (map alias_of aliases.now) self.now }
     {
-        if self.label < aliases.len() {
-            aliases[self.label].label()
-        } else {
-            b""
+        match self.row(aliases) {
+            Some(row) => row.label(),
+            None => b"",
         }
     }
 
@@ -151,10 +169,9 @@ impl Progress {
         ensures value_that_was_tried_last { result.now ≡ value_tried (map alias_of aliases.now) self.now }
         ensures at_most_96_bytes { length result.now ≤ 96 }
     {
-        if self.label < aliases.len() {
-            value_at(&aliases[self.label], self.value.saturating_sub(1))
-        } else {
-            b""
+        match self.row(aliases) {
+            Some(row) => value_at(row, self.value.saturating_sub(1)),
+            None => b"",
         }
     }
 
@@ -166,8 +183,7 @@ impl Progress {
             *self = Progress {
                 label,
                 value: 0,
-                tried: false,
-                done: self.done,
+                ..*self
             };
         }
     }
@@ -177,30 +193,25 @@ impl Progress {
         &mut self,
         tree: &mut T,
         row: &AliasRow,
-        directory: &[u8],
-        request: &[u8],
-        work: &mut [u8],
-    ) -> Option<Attempt>
+        import: Import,
+    ) -> Option<HeldAttempt>
         requires sound { T.FileTree.sound tree.old }
-        requires room_for_a_text { 255 ≤ length work.old }
         requires not_done { self.old.done ≡ false }
         ensures same_label { self.new.label ≡ self.old.label }
-        ensures next_of_its_values { (later : List Tried) → RowTaken (values_left (T.FileTree.meaning tree.old) directory.now request.now (alias_of row.now) self.old later) (option_map (row_said (alias_of row.now) self.new request.now work.new) result) (values_left (T.FileTree.meaning tree.old) directory.now request.now (alias_of row.now) self.new later) self.new.done later }
-        ensures only_its_text_is_written { work.new ≡ fronted (take (written_length result) work.new) work.old }
+        ensures next_of_its_values { (later : List Tried) → RowTaken (values_left (T.FileTree.meaning tree.old) import.entry.directory.now import.entry.request.now (alias_of row.now) self.old later) (option_map (row_said (alias_of row.now) self.new import.entry.request.now) result) (values_left (T.FileTree.meaning tree.old) import.entry.directory.now import.entry.request.now (alias_of row.now) self.new later) self.new.done later }
         ensures same_meaning { T.FileTree.meaning tree.new ≡ T.FileTree.meaning tree.old }
         ensures still_sound { T.FileTree.sound tree.new }
     {
-        if let Some((i, attempt)) = next_value(tree, row, self.value, directory, request, work) {
+        if let Some((i, attempt)) = import.next_value(tree, row, self.value) {
             self.value = i + 1;
-            self.tried = true;
             self.done = attempt.is_last();
             return Some(attempt);
         }
-        if self.tried {
-            self.done = true;
-            return Some(Attempt::Unmatched);
+        if self.value == 0 {
+            return None;
         }
-        None
+        self.done = true;
+        Some(Attempt::Unmatched)
     }
 
     // The next attempt of a label; none where it does not touch, or all its values are passed over.
@@ -208,26 +219,23 @@ impl Progress {
         &mut self,
         tree: &mut T,
         row: &AliasRow,
-        directory: &[u8],
-        request: &[u8],
-        work: &mut [u8],
-    ) -> Option<Attempt>
+        import: Import,
+    ) -> Option<HeldAttempt>
         requires sound { T.FileTree.sound tree.old }
-        requires room_for_a_text { 255 ≤ length work.old }
         requires not_done { self.old.done ≡ false }
         ensures same_label { self.new.label ≡ self.old.label }
-        ensures next_of_the_label { (later : List Tried) → RowTaken (row_left (T.FileTree.meaning tree.old) directory.now request.now (alias_of row.now) self.old later) (option_map (row_said (alias_of row.now) self.new request.now work.new) result) (row_left (T.FileTree.meaning tree.old) directory.now request.now (alias_of row.now) self.new later) self.new.done later }
-        ensures only_its_text_is_written { work.new ≡ fronted (take (written_length result) work.new) work.old }
+        ensures next_of_the_label { (later : List Tried) → RowTaken (row_left (T.FileTree.meaning tree.old) import.entry.directory.now import.entry.request.now (alias_of row.now) self.old later) (option_map (row_said (alias_of row.now) self.new import.entry.request.now) result) (row_left (T.FileTree.meaning tree.old) import.entry.directory.now import.entry.request.now (alias_of row.now) self.new later) self.new.done later }
         ensures same_meaning { T.FileTree.meaning tree.new ≡ T.FileTree.meaning tree.old }
         ensures still_sound { T.FileTree.sound tree.new }
     {
-        if !key_matches(row.label(), request) {
+        if !key_matches(row.label(), import.request) {
             return None;
         }
-        self.try_values(tree, row, directory, request, work)
+        self.try_values(tree, row, import)
     }
 
     /// The next attempt for a request from a directory: none is left, another request, or an end. A text that is made is written to the front of `work`, which holds any text if it has 255 bytes.
+    #[tactic(auto, using(crate::proofs::Attempting::untouched))]
     pub fn next<T: FileTree>(
         &mut self,
         tree: &mut T,
@@ -250,10 +258,12 @@ impl Progress {
         if self.done {
             return None;
         }
+        let import = Import { directory, request };
+        // The project goes through labels and their values by an index.
         for i in self.label..aliases.len() {
             self.go_to(i);
-            if let Some(attempt) = self.try_label(tree, &aliases[i], directory, request, work) {
-                return Some(attempt);
+            if let Some(attempt) = self.try_label(tree, &aliases[i], import) {
+                return Some(attempt.written(work));
             }
         }
         self.done = true;
@@ -266,12 +276,8 @@ fn value_at(row: &AliasRow, i: usize) -> &[u8]
     ensures text_of_the_value { result.now ≡ first_value (drop i (alias_of row.now).values) }
     ensures at_most_96_bytes { length result.now ≤ 96 }
 {
-    let values = row.values();
-    if i >= values.len() {
-        return b"";
-    }
-    match &values[i] {
-        AliasValue::Ignore => b"",
-        AliasValue::Path(text) => text.as_bytes(),
+    match row.values().get(i) {
+        Some(AliasValue::Path(text)) => text.as_bytes(),
+        Some(AliasValue::Ignore) | None => b"",
     }
 }

@@ -1,12 +1,11 @@
 // The forms of labels, and which requests a label touches.
-ghost use Rattle.std.specs.Prelude.{◌≡◌};
-ghost use Rattle.std.specs.Option.{option_map};
-ghost use Rattle.alias.specs.Forms.{behind, first_byte_fits, form, form_touches, goes_on, key as key_of, touches};
+ghost use Rattle.std.specs.Prelude.{◌≡◌, true, false, MatchOption};
+ghost use Rattle.texts.specs.Texts.{has};
+ghost use Rattle.alias.specs.Forms.{STAR, before_star, behind_star, first_byte_fits, form, form_touches, goes_on, key as key_of, touches};
 ghost use Rattle.alias.specs.Labels.{formed};
-ghost use Rattle.texts.specs.Texts.{ends};
 ghost use Rattle.alias.specs.Laws.{ExactTouchesItself, PlainTouchesWhatItContinues};
 
-use texts::{position, same_bytes};
+use texts::ends_in;
 
 /// The form of a label, with the texts that a request is compared with.
 #[derive(Clone, Copy)]
@@ -19,61 +18,44 @@ pub enum AliasMatchKind<'a> {
     Prefix(&'a [u8]),
 }
 
-/// What is left of a text behind a beginning; none if it begins otherwise.
-pub(crate) fn behind<'a>(beginning: &[u8], text: &'a [u8]) -> Option<&'a [u8]>
-    ensures what_is_left_behind_it { option_map (λ x. x.now) result ≡ behind beginning.now text.now }
-{
-    if !text.starts_with(beginning) {
-        return None;
-    }
-    Some(&text[beginning.len()..])
-}
-
 // Whether a text goes on as a path does, with a slash or a backslash.
-pub(crate) fn goes_on(text: &[u8]) -> bool
+fn goes_on(text: &[u8]) -> bool
     ensures slash_or_backslash_first { result ≡ goes_on text.now }
 {
-    match text {
-        [b'/' | b'\\', ..] => true,
-        _ => false,
-    }
-}
-
-// Whether a label ends in `$`.
-fn ends_in_dollar(label: &[u8]) -> bool
-    ensures final_dollar { result ≡ ends 36 label.now }
-{
-    match label {
-        [.., b'$'] => true,
-        _ => false,
-    }
+    matches!(text, [b'/' | b'\\', ..])
 }
 
 /// The label without its final `$`.
+#[tactic(auto, using(texts::proofs::ByteLoops::ends_at))]
 pub fn key(label: &[u8]) -> &[u8]
     ensures label_without_its_dollar { result.now ≡ key_of label.now }
 {
-    if ends_in_dollar(label) {
-        return &label[0..label.len() - 1];
+    match label {
+        [key @ .., b'$'] => key,
+        _ => label,
     }
-    label
+}
+
+// What stands before the first `*` of a text, and what stands behind it; none without a `*`.
+pub(crate) fn split_star(text: &[u8]) -> Option<(&[u8], &[u8])>
+    ensures around_the_first_star { MatchOption result (has STAR text.now ≡ false) (λ x. (has STAR text.now ≡ true) × (x.0.now ≡ before_star text.now) × (x.1.now ≡ behind_star text.now)) }
+{
+    let star = text.iter().position(|byte| *byte == b'*')?;
+    Some((&text[..star], &text[star + 1..]))
 }
 
 impl<'a> AliasMatchKind<'a> {
     /// The form of a label.
+    #[tactic(auto, unfolding(crate::specs::Forms::form))]
     pub fn of(label: &'a [u8]) -> AliasMatchKind<'a>
         ensures form_of_the_label { formed result ≡ form label.now }
     {
-        if ends_in_dollar(label) {
+        if ends_in(label, b'$') {
             return AliasMatchKind::Exact(key(label));
         }
-        let star = position(label, b'*');
-        if star == label.len() {
-            return AliasMatchKind::Prefix(label);
-        }
-        AliasMatchKind::Wildcard {
-            prefix: &label[0..star],
-            suffix: &label[star + 1..],
+        match split_star(label) {
+            Some((prefix, suffix)) => AliasMatchKind::Wildcard { prefix, suffix },
+            None => AliasMatchKind::Prefix(label),
         }
     }
 
@@ -82,9 +64,9 @@ impl<'a> AliasMatchKind<'a> {
         ensures touched_by_its_form { result ≡ form_touches (formed self.entry) request.now }
     {
         match self {
-            AliasMatchKind::Exact(key) => same_bytes(key, request),
+            AliasMatchKind::Exact(key) => key == request,
             AliasMatchKind::Wildcard { prefix, .. } => begins_alike(prefix, request),
-            AliasMatchKind::Prefix(label) => match behind(label, request) {
+            AliasMatchKind::Prefix(label) => match request.strip_prefix(label) {
                 Some(tail) => tail.is_empty() || goes_on(tail),
                 None => false,
             },
@@ -96,14 +78,11 @@ impl<'a> AliasMatchKind<'a> {
 fn begins_alike(prefix: &[u8], request: &[u8]) -> bool
     ensures first_byte_of_the_prefix { result ≡ first_byte_fits prefix.now request.now }
 {
-    match (prefix, request) {
-        ([], _) => true,
-        ([first, ..], [byte, ..]) => first == byte,
-        ([..], []) => false,
-    }
+    prefix.is_empty() || prefix.first() == request.first()
 }
 
 /// Whether a label touches a request.
+#[tactic(auto, using(crate::proofs::Touching::plain_touches, crate::proofs::Touching::exact_touches), unfolding(crate::specs::Forms::touches))]
 pub fn key_matches(label: &[u8], request: &[u8]) -> bool
     ensures touched_by_its_form { result ≡ touches label.now request.now }
     ensures plain_label_touches_itself_and_what_continues_it { PlainTouchesWhatItContinues label.now request.now }

@@ -8,5 +8,5 @@ mod samples;
 
 pub use attempts::{Attempt, Progress};
 pub use label::{AliasMatchKind, key, key_matches};
-pub use rewrite::{NewRequest, Rewrite, load_alias_value};
+pub use rewrite::{NewRequest, TooLong, load_alias_value};
 pub use samples::worked_examples_hold;

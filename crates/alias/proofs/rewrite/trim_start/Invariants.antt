@@ -1,7 +1,9 @@
-use Rattle.std.proofs.Common.{◌≡◌, drop}
+use Rattle.std.proofs.Common.{◌≡◌, length}
 use Rattle.alias.specs.Rewrites.{trimmed}
 use Rattle.alias.proofs.rewrite.trim_start.Given as goal
 
--- What is left is trimmed like the whole.
-abbrev pub invariant-loop-i : goal.invariant-loop-i
-invariant-loop-i l = trimmed (drop l.i l.tail) ≡ trimmed l.tail
+abbrev pub invariant-loop-kept : goal.invariant-loop-kept
+invariant-loop-kept l = trimmed l.kept ≡ trimmed l.tail
+
+abbrev pub decreases-loop-kept : goal.decreases-loop-kept
+decreases-loop-kept l = length l.kept

@@ -3,22 +3,10 @@ use Rattle.std.proofs.lemmas.Bool.{cond-false}
 use Rattle.stack.proofs.Slots.{mapped_from}
 use Rattle.settings.specs.Rows.{alias_of}
 use Rattle.alias.specs.declared.attempts.Progress.{Progress}
-use Rattle.alias.specs.Attempts.{attempts}
-use Rattle.alias.specs.Left.{left, left_of, row_left, row_said}
-use Rattle.alias.proofs.Attempting.{gone_label, next_later, next_taken, untouched}
+use Rattle.alias.specs.Attempts.{Attempt as Tried, attempts}
+use Rattle.alias.specs.Left.{label_tried, left, left_of, row_left, row_said, value_tried}
+use Rattle.alias.proofs.Attempting.{gone_label, next_later, next_taken}
 use Rattle.alias.proofs.attempts.Progress.next.Goals as goal
-
-pub returns-then-work-lt-MAX_LEN-clause-untouching_label_changes_nothing : goal.returns-then-work-lt-MAX_LEN-clause-untouching_label_changes_nothing
-returns-then-work-lt-MAX_LEN-clause-untouching_label_changes_nothing g c = untouched _ c.args.directory.now c.args.request.now
-
-pub returns-then-self-clause-untouching_label_changes_nothing : goal.returns-then-self-clause-untouching_label_changes_nothing
-returns-then-self-clause-untouching_label_changes_nothing g c = untouched _ c.args.directory.now c.args.request.now
-
-pub returns-in-Some-clause-untouching_label_changes_nothing : goal.returns-in-Some-clause-untouching_label_changes_nothing
-returns-in-Some-clause-untouching_label_changes_nothing g c = untouched _ c.args.directory.now c.args.request.now
-
-pub returns-clause-untouching_label_changes_nothing : goal.returns-clause-untouching_label_changes_nothing
-returns-clause-untouching_label_changes_nothing g c = untouched _ c.args.directory.now c.args.request.now
 
 pub returns-in-Some-clause-next_in_the_list : goal.returns-in-Some-clause-next_in_the_list
 returns-in-Some-clause-next_in_the_list g c =
@@ -34,16 +22,17 @@ returns-in-Some-clause-next_in_the_list g c =
     let step = mapped_from alias_of c.args.aliases.now i c.index-aliases-i.result c.loop-i-test.true c.index-aliases-i.is in
     let at : new.label ≡ i = c.in-Some.ensures.same_label ∙ ap (λ (p : Progress). p.label) gone ∙ gone_label i c.loop-i.self in
     let later = attempts m d r (drop (i + 1) ls) in
-    let taken : row_left m d r a c.go_to.new.self later ≡ row_said a new r c.try_label.new.work x ∷ cond new.done [] (row_left m d r a new later) =
+    let taken : row_left m d r a c.go_to.new.self later ≡ row_said a new r x ∷ cond new.done [] (row_left m d r a new later) =
     (λ k. row_left (sym c.loop-i.invariant.same_meaning k) d r a c.go_to.new.self later)
     ∙ c.in-Some.ensures.next_of_the_label later
-    ∙ (λ k. row_said a new r c.try_label.new.work x ∷ cond new.done [] (row_left (c.loop-i.invariant.same_meaning k) d r a new later)) in
+    ∙ (λ k. row_said a new r x ∷ cond new.done [] (row_left (c.loop-i.invariant.same_meaning k) d r a new later)) in
     let begin : left m d r ls c.args.self.now ≡ left_of m d r (drop c.args.self.now.label ls) c.args.self.now = cond-false _ _ _ c.if-self.false in
     λ h.
     begin
     ∙ sym c.loop-i.invariant.left_from_there
     ∙ ap (λ (p : Progress). left_of m d r (drop i ls) p) (sym gone)
-    ∙ next_taken m d r ls i a step c.go_to.new.self new x c.try_label.new.work at taken
+    ∙ next_taken m d r ls i a step c.go_to.new.self new x at taken
+    ∙ ap (λ (t : Tried). t ∷ left m d r ls new) (sym (c.written.ensures.says_the_same (value_tried ls new) (label_tried ls new) r))
 
 pub loop-i-preserved : goal.loop-i-preserved
 loop-i-preserved g c =
@@ -63,7 +52,7 @@ loop-i-preserved g c =
     record {
       sound = c.try_label.ensures.still_sound;
       same_meaning = c.try_label.ensures.same_meaning ∙ c.loop-i.invariant.same_meaning;
-      nothing_written = c.in_default.ensures.only_its_text_is_written ∙ c.loop-i.invariant.nothing_written;
+      nothing_written = c.loop-i.invariant.nothing_written;
       not_done = (c.in_default.ensures.next_of_the_label later).1;
       not_beyond = omega arith;
       left_from_there =
