@@ -13,20 +13,14 @@ use crate::refusal::Refusal;
 use crate::sentence::Refused;
 use lines::{Head, Line, first_line};
 use listing::Listing;
-use settings::{Setting, Settings};
+use settings::{Settings, is_setting_kind};
 use std::alloc::{AllocError, Global};
-
-// The kind of a line that sets a flag.
-const FLAG: u16 = 31;
 
 // Whether a line is one of the settings, by its kind.
 fn is_setting(line: &[u8]) -> bool
     ensures setting_or_flag_by_its_head { result ≡ sets (head_of line.now) }
 {
-    match Head::read(line) {
-        Ok(head) => head.kind == FLAG || Setting::of(head.kind).is_some(),
-        Err(_) => false,
-    }
+    Head::read(line).is_ok_and(|head| is_setting_kind(head.kind))
 }
 
 // Takes a line into the listing, or says why not.

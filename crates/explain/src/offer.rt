@@ -16,7 +16,7 @@ use texts::{Place, Text};
 use tree::{FileTree, Host, Kind, Policy, is_acceptable};
 
 /// What becomes of a candidate.
-#[derive(Clone, Copy)]
+#[derive(Clone, Copy, PartialEq, Eq, Debug)]
 pub enum Verdict {
     Nothing,
     Directory,

@@ -53,7 +53,9 @@ impl Reading {
             return Err(Refusal::Request);
         }
         let specifier = Specifier::parse(request)?;
-        let path = path_of(specifier, request).ok_or(Refusal::TooLong)?;
+        let Some(path) = path_of(specifier, request) else {
+            return Err(Refusal::TooLong);
+        };
         let branch = Branch::of(path.as_bytes());
         let sought = sought(directory, path.as_bytes());
         Ok(Reading {

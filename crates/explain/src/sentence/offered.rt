@@ -26,7 +26,7 @@ fn stays_open(first: bool, offer: &Result<Offer, Fault>) -> bool
     ensures until_an_acceptable_one { (path : Bytes) → result ≡ (first && not (may_pass (shown path offer.now))) }
 {
     match offer {
-        Ok(Offer { verdict: Verdict::Acceptable, .. }) => false,
+        Ok(offer) if offer.verdict == Verdict::Acceptable => false,
         _ => first,
     }
 }

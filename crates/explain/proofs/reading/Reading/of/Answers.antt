@@ -6,22 +6,16 @@ use Rattle.specifier.specs.Branches.{branch}
 use Rattle.specifier.specs.Requests.{path_of}
 use Rattle.specifier.specs.Sought.{sought_path}
 use Rattle.explain.specs.Readings.{within}
-use Rattle.explain.proofs.Bounds.{meant_empty, meant_whole, path_short, sought_there, sought_within}
+use Rattle.explain.proofs.Bounds.{meant_whole, path_short, sought_there, sought_within}
 use Rattle.explain.proofs.reading.Reading.of.Goals as goal
+
+pub returns-in_err-specifier-clause-paths_are_sought : goal.returns-in_err-specifier-clause-paths_are_sought
+returns-in_err-specifier-clause-paths_are_sought c = sought_there c.args.directory.now c.args.request.now
 
 pub returns-in_default : goal.returns-in_default
 returns-in_default c =
-    let d = c.args.directory.now in
-    let r = c.args.request.now in
-    record {
-      read_as_it_is_meant = meant_empty d r (sym c.if-not-is_directory.ensures.clean_short_and_ascii) (sym c.if-not-is_request.ensures.short_and_ascii) c.in_default.field-0 c.in_default.ensures.reads_the_request;
-      paths_are_sought = sought_there d r;
-    }
-
-pub returns-in_default-path_of : goal.returns-in_default-path_of
-returns-in_default-path_of c =
     let short = path_short c.args.request.now (sym c.if-not-is_request.ensures.short_and_ascii) in
-    absurd (omega (arith, short, c.in_default-path_of.ensures.unescaped_path_if_short, ap length c.in-Ok.ensures.places_hold_the_pieces.path))
+    absurd (omega (arith, short, c.in_default.ensures.unescaped_path_if_short, ap length c.in_ok-specifier.ensures.places_hold_the_pieces.path))
 
 pub returns : goal.returns
 returns c =
@@ -29,13 +23,13 @@ returns c =
     let r = c.args.request.now in
     let s = sym c.if-not-is_directory.ensures.clean_short_and_ascii in
     let a = sym c.if-not-is_request.ensures.short_and_ascii in
-    let holds = c.in-Ok.ensures.places_hold_the_pieces in
+    let holds = c.in_ok-specifier.ensures.places_hold_the_pieces in
     let path : bytes_of c.in-Some.path ≡ path_of r = c.in-Some.ensures.unescaped_path_if_short ∙ holds.path in
     let way : c.of-branch.result ≡ branch (path_of r) = c.of-branch.ensures.way_of_the_first_part ∙ ap branch (c.as_bytes.ensures.bytes_of_the_text ∙ path) in
     let sought : option_map bytes_of c.sought-sought.result ≡ sought_path d (path_of r) =
     c.sought-sought.ensures.sought_path_if_short ∙ ap (λ (t : Text). within (sought_path d t)) (c.as_bytes-2.ensures.bytes_of_the_text ∙ path) ∙ sought_within d r s a in
     record {
-      read_as_it_is_meant = meant_whole d r s a c.in-Ok.specifier c.in-Ok.ensures.reads_the_request _
+      read_as_it_is_meant = meant_whole d r s a c.in_ok-specifier.specifier c.in_ok-specifier.ensures.reads_the_request _
           (λ i. record { path = path i; query = holds.query i; fragment = holds.fragment i; way = way i; sought = sought i });
       paths_are_sought = sought_there d r;
     }
