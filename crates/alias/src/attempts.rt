@@ -1,4 +1,5 @@
 // The labels tried on a request, one attempt after the other.
+// Each call that asks the tree keeps its meaning and its soundness in its own contract, as the project asks of every call.
 ghost use Rattle.std.specs.Prelude.{◌≡◌, ◌<◌, ◌≤◌, ◌-◌, ◌+◌, Bool, false, List, [], ◌∷◌, IfSome, MatchOption, Some, map, drop, length, take};
 ghost use Rattle.texts.specs.Texts.{Text as Bytes, fronted};
 ghost use Rattle.std.specs.Option.{option_map};
