@@ -1,5 +1,6 @@
 // The stack at its limits.
-use stack::Stack;
+use stack::{ArrayVec, Stack};
+use std::test::Fail;
 use texts::{Place, push_parts};
 
 #[test]
@@ -22,4 +23,19 @@ fn parts_that_do_not_all_fit_are_not_pushed(rt: HostRuntime) {
     assert!(rt; push_parts(b"/a", &mut parts).is_ok());
     assert!(rt; push_parts(b"b/c", &mut parts).is_err());
     assert!(rt; parts.len() == 2);
+}
+
+#[test]
+fn a_list_gives_its_items_in_order(rt: HostRuntime) -> Result<(), Fail> {
+    let mut list: ArrayVec<u8, 4> = ArrayVec::new(0);
+    list.extend_from_slice(&[7, 8])?;
+    list.push(9)?;
+    list.push_front(6)?;
+    assert!(rt; list.push(1).is_err() && list.as_slice() == [6, 7, 8, 9].as_slice());
+    let copy = list.clone()?;
+    assert!(rt; list.remove(1) == Some(7) && list.remove(3) == None);
+    list.truncate(2);
+    assert!(rt; list.as_slice() == [6, 8].as_slice());
+    assert!(rt; copy.as_slice() == [6, 7, 8, 9].as_slice());
+    Ok(())
 }
