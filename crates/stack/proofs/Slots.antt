@@ -2,7 +2,6 @@
 use Rattle.std.proofs.Common.{◌≡◌, ℕ, suc, ◌+◌, ◌-◌, ◌<◌, ◌≤◌, List, [], ◌∷◌, ◌++◌, map, length, get_or, take, drop, set, sym, ap, ◌∙◌, add-one, append_assoc, arith, length-take}
 use lib.Seq.{take-set-lt}
 use Rattle.std.proofs.lemmas.List.{drop-drop, drop-map, drop-take, drop_more, length-append, length-drop, take-take, take_at, get_or-map, get_or-take, length-map, length-take-le, map_push, map-set, take_more_set}
-
 use Rattle.stack.specs.declared.array_vec.ArrayVec.{ArrayVec}
 use Rattle.stack.specs.Held.{held}
 
