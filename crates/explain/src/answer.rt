@@ -10,6 +10,7 @@ use specifier::Branch;
 use texts::Text;
 use tree::{Broken, FileTree, Host, Kind, Way};
 
+// Five cases, and not an option in a result: a request may also have no path to ask for.
 /// The kind of the path that is looked for, or where the lookup leads.
 #[derive(Clone, Copy)]
 pub enum Answer {
@@ -20,7 +21,7 @@ pub enum Answer {
     Broken,
 }
 
-// Where a request leads from a directory.
+// Where a request leads from a directory. The host writes to memory that is lent, by a rule of the project.
 fn look_up<H: Host>(host: &mut H, way: Way, request: &[u8], directory: &[u8]) -> Answer
     requires sound { H.FileTree.sound host.old }
     ensures answer_by_the_meaning { heard result ≡ found_by ((H.FileTree.meaning host.old).lookup way request.now (parts directory.now)) }

@@ -40,21 +40,20 @@ fn explain_text(
     rt: &HostRuntime,
     host: &mut Cache<Listing>,
     settings: &Settings,
-    directory: &[u8],
-    request: &[u8],
+    question: Question,
 ) -> anyhow::Result<()>
     requires sound { Agrees (listed (rows host.old.below)).kind (held host.old.recent) }
     ensures still_sound { Agrees (listed (rows host.new.below)).kind (held host.new.recent) }
 {
-    let trials = trials(rt.alloc(), host, settings.aliases(), directory, request)?;
+    let trials = trials(rt.alloc(), host, settings.aliases(), question)?;
     let labels = Labels {
         aliases: settings.aliases(),
-        request,
-        decided: deciding(host, settings.aliases(), directory, request),
+        request: question.request,
+        decided: deciding(host, settings.aliases(), question),
         trials: trials.as_slice(),
     };
     print!(rt; "{labels}")?;
-    let Some(path) = sought(directory, request) else {
+    let Some(path) = sought(question.directory, question.request) else {
         return Ok(());
     };
     let policy = PartCount { max: MAX_DEPTH };
@@ -63,7 +62,7 @@ fn explain_text(
         host,
         &policy,
         settings,
-        is_inward(request),
+        is_inward(question.request),
         path.as_bytes(),
     )?;
     let offered = Offered {
@@ -108,16 +107,13 @@ fn explain(
     };
     let answer = ask(host, question.directory, &reading);
     println!(rt; "{}", Told::of(number, question, &reading, answer))?;
+    let directory = question.directory;
     if let Some(text) = reading.with_fragment(question.request) {
-        explain_text(rt, host, settings, question.directory, text.as_bytes())?;
+        let request = text.as_bytes();
+        explain_text(rt, host, settings, Question { directory, request })?;
     }
-    explain_text(
-        rt,
-        host,
-        settings,
-        question.directory,
-        reading.path.as_bytes(),
-    )
+    let request = reading.path.as_bytes();
+    explain_text(rt, host, settings, Question { directory, request })
 }
 
 fn run(rt: &HostRuntime) -> anyhow::Result<()> {

@@ -7,6 +7,7 @@ ghost use Rattle.alias.specs.Attempts.{attempts};
 ghost use Rattle.alias.specs.Left.{said};
 ghost use Rattle.explain.specs.Trials.{any_tried, deciding, tried};
 
+use crate::question::Question;
 use alias::{Attempt, Progress};
 use settings::AliasRow;
 use std::alloc::{AllocError, Global};
@@ -61,55 +62,61 @@ pub fn trials<T: FileTree>(
     alloc: Global,
     tree: &mut T,
     aliases: &[AliasRow],
-    directory: &[u8],
-    request: &[u8],
+    question: Question,
 ) -> Result<Vec<Trial>, AllocError>
     requires sound { T.FileTree.sound tree.old }
-    ensures every_attempt_in_its_order { IfOk result (λ v. map (tried (map alias_of aliases.now) request.now) v.items ≡ attempts (T.FileTree.meaning tree.old) directory.now request.now (map alias_of aliases.now)) }
+    ensures every_attempt_in_its_order { IfOk result (λ v. map (tried (map alias_of aliases.now) question.entry.request.now) v.items ≡ attempts (T.FileTree.meaning tree.old) question.entry.directory.now question.entry.request.now (map alias_of aliases.now)) }
     ensures same_meaning { T.FileTree.meaning tree.new ≡ T.FileTree.meaning tree.old }
     ensures still_sound { T.FileTree.sound tree.new }
 {
     let mut work = [0; 255];
     let mut progress = Progress::new();
     let mut found = Vec::new(alloc);
-    while let Some(attempt) = progress.next(tree, aliases, directory, request, &mut work) {
+    while let Some(attempt) = progress.next(
+        tree,
+        aliases,
+        question.directory,
+        question.request,
+        &mut work,
+    ) {
         found.push(Trial::of(&progress, aliases, attempt, &work))?;
     }
     Ok(found)
 }
 
 // Whether something is tried of one of these labels.
-fn makes_an_attempt<T: FileTree>(
-    tree: &mut T,
-    aliases: &[AliasRow],
-    directory: &[u8],
-    request: &[u8],
-) -> bool
+fn makes_an_attempt<T: FileTree>(tree: &mut T, aliases: &[AliasRow], question: Question) -> bool
     requires sound { T.FileTree.sound tree.old }
-    ensures attempts_by_definition { result ≡ any_tried (attempts (T.FileTree.meaning tree.old) directory.now request.now (map alias_of aliases.now)) }
+    ensures attempts_by_definition { result ≡ any_tried (attempts (T.FileTree.meaning tree.old) question.entry.directory.now question.entry.request.now (map alias_of aliases.now)) }
     ensures same_meaning { T.FileTree.meaning tree.new ≡ T.FileTree.meaning tree.old }
     ensures still_sound { T.FileTree.sound tree.new }
 {
     let mut work = [0; 255];
     let mut progress = Progress::new();
-    let attempt = progress.next(tree, aliases, directory, request, &mut work);
+    let attempt = progress.next(
+        tree,
+        aliases,
+        question.directory,
+        question.request,
+        &mut work,
+    );
     attempt.is_some()
 }
 
+// Labels are gone through by their index, by a rule of the project.
 /// The place of the first label of which something is tried for a request from a directory.
 pub fn deciding<T: FileTree>(
     tree: &mut T,
     aliases: &[AliasRow],
-    directory: &[u8],
-    request: &[u8],
+    question: Question,
 ) -> Option<usize>
     requires sound { T.FileTree.sound tree.old }
-    ensures first_label_that_tries { result ≡ deciding (T.FileTree.meaning tree.old) directory.now request.now (map alias_of aliases.now) }
+    ensures first_label_that_tries { result ≡ deciding (T.FileTree.meaning tree.old) question.entry.directory.now question.entry.request.now (map alias_of aliases.now) }
     ensures same_meaning { T.FileTree.meaning tree.new ≡ T.FileTree.meaning tree.old }
     ensures still_sound { T.FileTree.sound tree.new }
 {
     for i in 0..aliases.len() {
-        if makes_an_attempt(tree, &aliases[i..=i], directory, request) {
+        if makes_an_attempt(tree, &aliases[i..=i], question) {
             return Some(i);
         }
     }

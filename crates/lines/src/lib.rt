@@ -30,6 +30,7 @@ impl Refusal {
     }
 }
 
+// The kind stays a number: which kinds there are is for those to say who read the line.
 /// The three numbers at the front of a line.
 #[derive(Clone, Copy, PartialEq, Eq, Debug)]
 pub struct Head {

@@ -32,6 +32,7 @@ impl<'a> Iterator for Unescaped<'a> {
     }
 }
 
+// Two passes, since `out` has to stay as it was where the text does not fit.
 /// Copies `text` without its escapes to the front of `out`, and says how long that is; none, and `out` as it was, if it does not fit.
 pub(crate) fn write_unescaped(text: &[u8], out: &mut [u8]) -> Option<usize>
     ensures length_if_it_fits { result ≡ length_in (Some (unescaped text.now)) (length out.old) }

@@ -22,13 +22,6 @@ module _ {X Y : Type 0} (f : X → Y) (xs : List X) (n : ℕ) where
   pub slot_at : (i : ℕ) (d : X) (e : Y) → i < n → n ≤ length xs → get_or (map f (take n xs)) i e ≡ f (get_or xs i d)
   slot_at i d e h k = get_or-map f (take n xs) i d e (omega (arith, length-take-le n xs k)) ∙ ap f (get_or-take n xs i d h)
 
-  -- what is left from i on
-  pub slots_from : (i : ℕ) (d : X) → i < n → n ≤ length xs → drop i (map f (take n xs)) ≡ f (get_or xs i d) ∷ drop (i + 1) (map f (take n xs))
-  slots_from i d h k =
-      drop-map f i (take n xs)
-      ∙ ap (map f) (drop_more (take n xs) i d (omega (arith, length-take-le n xs k)))
-      ∙ (λ j. f (get_or-take n xs i d h j) ∷ sym (drop-map f (i + 1) (take n xs)) j)
-
 -- the item at i of a list, by what it means, and those behind it
 pub mapped_from : {X Y : Type 0} (f : X → Y) (xs : List X) (i : ℕ) (x : X) → i < length xs → x ≡ get_or xs i x → drop i (map f xs) ≡ f x ∷ drop (i + 1) (map f xs)
 mapped_from f xs i x inside is =

@@ -18,19 +18,6 @@ append_is xs ys more a e h =
     ∙ sym (append_assoc (take a xs) more _)
     ∙ ap (λ l. (take a xs ++ more) ++ l) (drop-drop (a + length more - a) a xs ∙ ap (λ n. drop n xs) (sym long))
 
--- what is written behind a text that was written
-pub fronted_more : (out out₁ xs ys : List ℕ) (n : ℕ) → out₁ ≡ fronted xs out → n ≡ length xs → fronted (take n out₁ ++ ys) out₁ ≡ fronted (xs ++ ys) out
-fronted_more out out₁ xs ys n e size =
-    let front : take n out₁ ≡ xs = ap (take n) e ∙ take_at xs _ n (sym size) in
-    let both = length-append xs ys in
-    let rest : drop (length (xs ++ ys)) (xs ++ drop (length xs) out) ≡ drop (length (xs ++ ys)) out =
-    ap (λ k. drop k (xs ++ drop (length xs) out)) both
-    ∙ sym (drop-drop (length ys) (length xs) _)
-    ∙ ap (drop (length ys)) (drop_at xs _ (length xs) refl)
-    ∙ drop-drop (length ys) (length xs) out
-    ∙ ap (λ k. drop k out) (sym both) in
-    (λ i. fronted (front i ++ ys) (e i)) ∙ ap (λ l. (xs ++ ys) ++ l) rest
-
 -- a text that went to the front of a buffer, and one that did not
 pub goes_in : (xs out : List ℕ) (n : ℕ) (out₁ : List ℕ) → n ≡ length xs → out₁ ≡ fronted xs out → length xs ≤ length out → (Some n ≡ length_in (Some xs) (length out)) × (out₁ ≡ buffer_with (Some xs) out)
 goes_in xs out n out₁ size bytes h =
@@ -41,13 +28,6 @@ pub stays_out : (xs out : List ℕ) → length out < length xs → (None ≡ len
 stays_out xs out h =
     let less : leb (length xs) (length out) ≡ false = lt-leb _ _ h in
     (sym (cond-false _ _ _ less), sym (cond-false _ _ _ less))
-
--- a text that is a front of its buffer is there already
-pub is_there : (out xs : List ℕ) (n m : ℕ) → n ≤ m → m ≤ length out → xs ≡ take n (take m out) → (Some n ≡ length_in (Some xs) (length out)) × (out ≡ buffer_with (Some xs) out)
-is_there out xs n m h k e =
-    let same : xs ≡ take n out = e ∙ take-take n m out h in
-    let long : n ≡ length xs = sym (ap length same ∙ length-take-le n out (omega arith)) in
-    goes_in xs out n out long (sym (take-append-drop n out) ∙ (λ i. sym same i ++ drop (long i) out)) (omega arith)
 
 -- which way a test went, by the answer
 cond_some : (b : Bool) (m n : ℕ) → Some n ≡ cond b (Some m) None → (b ≡ true) × (n ≡ m)
@@ -66,33 +46,6 @@ went_in xs out out₁ n e w =
 
 pub went_out : (xs : List ℕ) (n : ℕ) → None ≡ length_in (Some xs) n → n < length xs
 went_out xs n e = leb-false _ _ (cond_none (leb (length xs) n) (length xs) e)
-
--- what a copied text leaves in a buffer
-pub copied_in : (s out : List ℕ) → text_in (length_in (Some s) (length out)) (buffer_with (Some s) out) ≡ cond (leb (length s) (length out)) (Some s) None
-copied_in s out = at (leb (length s) (length out)) refl
-  where
-    at : (v : Bool) → leb (length s) (length out) ≡ v → text_in (cond v (Some (length s)) None) (cond v (fronted s out) out) ≡ cond v (Some s) None
-    at true e = ap Some (take_at s (drop (length s) out) (length s) refl)
-    at false e = refl
-
-pub copied_within : (s : List ℕ) (n : ℕ) → IfSome (length_in (Some s) n) (λ k. k ≤ n)
-copied_within s n = at (leb (length s) n) refl
-  where
-    at : (v : Bool) → leb (length s) n ≡ v → IfSome (cond v (Some (length s)) None) (λ k. k ≤ n)
-    at true e = leb-true (length s) n e
-    at false e = tt
-
--- a text made in a work buffer and then copied out
-module _ (made : Option Text) (work out : List ℕ) where
-  pub handed_out : (len : ℕ) → text_in (Some len) work ≡ made
-      → (length_in (Some (take (len - 0) work)) (length out) ≡ length_in made (length out)) × (buffer_with (Some (take (len - 0) work)) out ≡ buffer_with made out)
-  handed_out len e =
-      let from : len - 0 ≡ len = omega arith in
-      let same : Some (take (len - 0) work) ≡ made = ap (λ (n : ℕ). Some (take n work)) from ∙ e in
-      (ap (λ (o : Option Text). length_in o (length out)) same, ap (λ (o : Option Text). buffer_with o out) same)
-
-  pub refused : text_in None work ≡ made → (None ≡ length_in made (length out)) × (out ≡ buffer_with made out)
-  refused e = (ap (λ (o : Option Text). length_in o (length out)) e, ap (λ (o : Option Text). buffer_with o out) e)
 
 -- a text written behind the first n bytes, or refused
 module _ (n : ℕ) (out more : List ℕ) where

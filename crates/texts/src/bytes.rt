@@ -61,6 +61,7 @@ pub fn ends_in(text: &[u8], byte: u8) -> bool
     }
 }
 
+// Callers lend the memory, by a rule of the project, so a buffer and a length stand side by side in the next two.
 /// Copies `text` to the front of `out` and says how long it is; a text that does not fit is refused, and `out` stays as it was.
 pub fn copy_text(text: &[u8], out: &mut [u8]) -> Option<usize>
     ensures length_if_it_fits { result ≡ length_in (Some text.now) (length out.old) }

@@ -8,6 +8,7 @@ ghost use Rattle.tree.specs.Meanings.{Meaning, Proper, Question, answered, count
 
 use crate::answers::{Broken, Kind, Manifest, Way};
 
+// That a layer is sound stands in each contract: a rule of the project makes it a member, asked and kept by every call.
 /// A file tree: each list of parts is nothing, a file or a directory.
 pub trait FileTree {
     // The tree and the answers to the other questions, as one value.

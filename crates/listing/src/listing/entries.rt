@@ -20,6 +20,7 @@ impl Listing {
         Listing { lines }
     }
 
+    // The kind stays a number: a sheet may write one that no kind has.
     /// Adds a line behind the others. A line that is refused leaves the listing as it was.
     pub fn add(&mut self, kind: u16, first: &[u8], second: &[u8]) -> Result<(), Refusal>
         ensures taken_or_refused { result ≡ taken_unless (refusal (rows self.old) kind first.now second.now) }

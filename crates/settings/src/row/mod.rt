@@ -5,6 +5,7 @@ use texts::Text;
 
 mod values;
 
+// As the Rust has it; an option would not say that the request is ignored.
 /// What a label stands for: the request is ignored, or becomes this text.
 #[derive(Clone, Copy)]
 pub enum AliasValue {

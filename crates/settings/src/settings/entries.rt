@@ -116,6 +116,7 @@ impl Settings {
         }
     }
 
+    // Both stay numbers: a sheet may write some that no flag or setting has.
     /// Sets a flag by its number: 1 fully specified, 2 context, 3 enforcement; 1 is on, 0 off, and for the third 2 auto.
     pub fn set_flag(&mut self, flag: u16, setting: u16) -> Result<(), Refusal>
         ensures taken_or_refused { result ≡ taken_unless (flag_refusal flag setting) }

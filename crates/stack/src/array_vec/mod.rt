@@ -5,6 +5,7 @@ use std::alloc::AllocError;
 
 mod methods;
 
+// Memory is fixed, by a rule of the project, and rows of labels are copied: the toolchain's list of this name is not `Copy`.
 /// Up to `N` items in an array of its own, in the order in which they were added.
 #[derive(Drop)]
 pub struct ArrayVec<T, const N: usize> {

@@ -3,6 +3,7 @@ ghost use Rattle.std.specs.Prelude.{◌≤◌, length};
 
 mod methods;
 
+// The caller lends the slots, by a rule of the project, so their length stands beside them.
 /// A stack in a lent slice: the first `len` slots are its items, the last of them on top.
 #[derive(Drop)]
 pub struct Stack<'a, T> {

@@ -9,8 +9,8 @@ use Rattle.explain.proofs.trial.deciding.Goals as goal
 pub returns-then-makes_an_attempt-clause-first_label_that_tries : goal.returns-then-makes_an_attempt-clause-first_label_that_tries
 returns-then-makes_an_attempt-clause-first_label_that_tries g c =
     let m = g.T.FileTree.meaning c.args.tree.now in
-    let d = c.args.directory.now in
-    let r = c.args.request.now in
+    let d = c.args.question.directory.now in
+    let r = c.args.question.request.now in
     let rows = c.args.aliases.now in
     let i = c.loop-i.i in
     let tried = row_tried m _ d r rows i _ _ c.loop-i.invariant.same_meaning c.makes_an_attempt.ensures.attempts_by_definition c.if-makes_an_attempt.true in
@@ -19,8 +19,8 @@ returns-then-makes_an_attempt-clause-first_label_that_tries g c =
 pub loop-i-preserved : goal.loop-i-preserved
 loop-i-preserved g c =
     let m = g.T.FileTree.meaning c.args.tree.now in
-    let d = c.args.directory.now in
-    let r = c.args.request.now in
+    let d = c.args.question.directory.now in
+    let r = c.args.question.request.now in
     let rows = c.args.aliases.now in
     let i = c.loop-i.i in
     let tried = row_tried m _ d r rows i _ _ c.loop-i.invariant.same_meaning c.makes_an_attempt.ensures.attempts_by_definition c.if-makes_an_attempt.false in

@@ -11,8 +11,8 @@ invariant-loop-attempt g l = record {
   sound : g.T.FileTree.sound l.tree;
   same_meaning : g.T.FileTree.meaning l.tree ≡ g.T.FileTree.meaning l.initial.tree;
   room : length l.work ≡ 255;
-  found_and_left : map (tried (map alias_of l.aliases) l.request) l.found.items ++ left (g.T.FileTree.meaning l.initial.tree) l.directory l.request (map alias_of l.aliases) l.progress ≡ attempts (g.T.FileTree.meaning l.initial.tree) l.directory l.request (map alias_of l.aliases);
+  found_and_left : map (tried (map alias_of l.aliases) l.question.request.now) l.found.items ++ left (g.T.FileTree.meaning l.initial.tree) l.question.directory.now l.question.request.now (map alias_of l.aliases) l.progress ≡ attempts (g.T.FileTree.meaning l.initial.tree) l.question.directory.now l.question.request.now (map alias_of l.aliases);
 }
 
 abbrev pub decreases-loop-attempt : goal.decreases-loop-attempt
-decreases-loop-attempt g l = length (left (g.T.FileTree.meaning l.tree) l.directory l.request (map alias_of l.aliases) l.progress)
+decreases-loop-attempt g l = length (left (g.T.FileTree.meaning l.tree) l.question.directory.now l.question.request.now (map alias_of l.aliases) l.progress)
