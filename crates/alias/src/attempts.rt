@@ -33,6 +33,7 @@ pub enum Attempt<T = usize> {
 // An attempt whose text is held by value.
 type HeldAttempt = Attempt<Text<MAX_LEN>>;
 
+// The end is a mark and no state of its own, since the label that was come to is asked for behind it too.
 /// How far the labels were tried for a request: the label that was come to, which of its values comes next, and whether all is done.
 #[derive(Clone, Copy)]
 pub struct Progress {

@@ -12,6 +12,8 @@ pub enum Cause {
     Setting(settings::Refusal),
 }
 
+// Two of the three types are other crates' and cannot get a `Display` here, so the words are functions.
+
 // What is wrong with a question, in words.
 fn question_reason(refusal: Refusal) -> &'static str
     ensures words_of_the_refusal { result.now ≡ question_words refusal }

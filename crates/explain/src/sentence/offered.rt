@@ -9,15 +9,17 @@ use candidates::Fault;
 use std::fmt;
 
 // What becomes of a candidate, in words.
-fn verdict_name(verdict: Verdict) -> &'static str
-    ensures words_of_the_verdict { result.now ≡ verdict_words verdict }
-{
-    match verdict {
-        Verdict::Nothing => "nothing there",
-        Verdict::Directory => "a directory",
-        Verdict::Forbidden => "a file that the policy does not allow",
-        Verdict::Restricted => "a file that differs from a restriction",
-        Verdict::Acceptable => "an acceptable file",
+impl fmt::Display for Verdict {
+    ghost output = { λ v. Some (verdict_words v) };
+
+    fn fmt<W: fmt::Write>(&self, f: &mut fmt::Formatter<W>) -> fmt::Result {
+        f.write_str(match self {
+            Verdict::Nothing => "nothing there",
+            Verdict::Directory => "a directory",
+            Verdict::Forbidden => "a file that the policy does not allow",
+            Verdict::Restricted => "a file that differs from a restriction",
+            Verdict::Acceptable => "an acceptable file",
+        })
     }
 }
 
@@ -49,12 +51,7 @@ impl fmt::Display for OfferLine<'_> {
                     Verdict::Acceptable if self.first => ", the first",
                     _ => "",
                 };
-                writeln!(
-                    f,
-                    "    {} is {}{mark}",
-                    Shown(text.as_bytes()),
-                    verdict_name(verdict)
-                )
+                writeln!(f, "    {} is {verdict}{mark}", Shown(text.as_bytes()))
             }
             Err(Fault::BrokenManifest) => writeln!(
                 f,

@@ -89,7 +89,7 @@ impl fmt::Display for WayWords<'_> {
     }
 }
 
-// What stands at a path, in words.
+// What stands at a path, in words: a function, since the type is another crate's.
 fn kind_name(kind: Kind) -> &'static str
     ensures words_of_the_kind { result.now ≡ kind_words kind }
 {

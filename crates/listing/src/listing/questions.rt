@@ -27,6 +27,7 @@ impl Listing {
         lines.iter().position(|line| line.fits(topic, text))
     }
 
+    // This one and the next share the front of their chains, which cannot be handed out.
     // How many main texts a manifest has whose next line is at `start`.
     pub(crate) fn count_mains(&self, start: usize) -> usize
         requires among_the_lines_or_behind { start ≤ length (rows self.now) }
