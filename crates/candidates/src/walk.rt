@@ -19,7 +19,7 @@ use settings::Settings;
 use texts::{MAX_LEN, Text};
 use tree::{Broken, FileTree, Host, Kind};
 
-// A stage carries its place, so one match on it says what each does.
+// Each stage has what it needs beside it, and one match says what each does.
 // Where in the list the walk is: the path, whether it is a directory and its manifest, a main text, or the end.
 #[derive(Clone, Copy, PartialEq, Eq, Debug)]
 enum Stage {

@@ -18,7 +18,7 @@ fn passes_restrictions(restrictions: &[Text<MAX_LEN>], path: &[u8]) -> bool
         .all(|restriction| path == restriction.as_bytes())
 }
 
-// Policy and restrictions belong to two owners; a value of both would be made for this one call.
+// Policy and restrictions belong to two owners, the firmware and the office, so they are two parameters.
 /// Whether `path` is acceptable: it is a file, the policy allows it, and every restriction has exactly its bytes. The tree is asked once, and first.
 #[tactic(auto, unfolding(crate::specs::Acceptances::acceptable))]
 pub fn is_acceptable<T: FileTree, P: Policy>(
