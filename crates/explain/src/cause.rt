@@ -60,7 +60,7 @@ impl From<Refusal> for Cause {
     ghost from_gives = { λ refusal cause. cause ≡ Question refusal };
 
     fn from(refusal: Refusal) -> Cause {
-        Cause::Question(refusal)
+        Self::Question(refusal)
     }
 }
 
@@ -68,7 +68,7 @@ impl From<listing::Refusal> for Cause {
     ghost from_gives = { λ refusal cause. cause ≡ Listing refusal };
 
     fn from(refusal: listing::Refusal) -> Cause {
-        Cause::Listing(refusal)
+        Self::Listing(refusal)
     }
 }
 
@@ -76,7 +76,7 @@ impl From<settings::Refusal> for Cause {
     ghost from_gives = { λ refusal cause. cause ≡ Setting refusal };
 
     fn from(refusal: settings::Refusal) -> Cause {
-        Cause::Setting(refusal)
+        Self::Setting(refusal)
     }
 }
 
