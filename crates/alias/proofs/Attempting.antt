@@ -1,5 +1,5 @@
 -- What is left of the attempts, step by step. Assumes nothing.
-use Rattle.std.proofs.Common.{◌≡◌, ℕ, ◌+◌, ◌-◌, ◌<◌, Bool, true, false, cond, eqb, List, [], ◌∷◌, ◌++◌, drop, Some, Option, sym, refl, ap, ◌∙◌, arith}
+use Rattle.std.proofs.Common.{◌≡◌, ℕ, ◌+◌, ◌-◌, ◌<◌, Bool, true, false, cond, eqb, List, [], ◌∷◌, ◌++◌, drop, Some, Option, Ok, Err, Result, sym, refl, ap, ◌∙◌, arith}
 use Rattle.std.proofs.lemmas.Bool.{cond-false, eqb-true}
 use Rattle.texts.specs.declared.text.Text.{Text as Held}
 use Rattle.texts.specs.Texts.{Text}
@@ -8,19 +8,20 @@ use Rattle.settings.specs.Tables.{Alias, Value}
 use Rattle.alias.specs.declared.attempts.Attempt.{Attempt}
 use Rattle.alias.specs.declared.attempts.Attempt.TheVariants as answer
 use Rattle.alias.specs.declared.attempts.Progress.{Progress}
+use Rattle.alias.specs.declared.rewrite.TooLong.{TooLong}
 use Rattle.alias.specs.Attempts.{Attempt as Tried, attempts, last, onward, value_attempt, value_attempts}
 use Rattle.alias.specs.Left.{ends_search, first_value, gone_to, label_of, label_tried, left, left_of, row_left, row_said, says, value_text, value_tried, values_of}
 use Rattle.alias.specs.Forms.{touches}
 
 -- an attempt ends the search by its kind
-pub said_ends : (v l r : Text) (x : Attempt (Held 255)) → last (says v l r x) ≡ ends_search x
-said_ends v l r (answer.Again new) = refl
-said_ends v l r (answer.Ignored t) = refl
-said_ends v l r answer.Unmatched = refl
-said_ends v l r answer.TooLong = refl
+pub said_ends : (v l r : Text) (x : Result (Attempt (Held 255)) TooLong) → last (says v l r x) ≡ ends_search x
+said_ends v l r (Ok (answer.Again new)) = refl
+said_ends v l r (Ok (answer.Ignored t)) = refl
+said_ends v l r (Ok answer.Unmatched) = refl
+said_ends v l r (Err e) = refl
 
 -- a value that gives an attempt
-pub value_met : (m : Meaning) (dir r l : Text) (vs more : List Value) (v : Value) (x : Attempt (Held 255)) → vs ≡ v ∷ more
+pub value_met : (m : Meaning) (dir r l : Text) (vs more : List Value) (v : Value) (x : Result (Attempt (Held 255)) TooLong) → vs ≡ v ∷ more
     → Some (says (value_text v) l r x) ≡ value_attempt m dir r l v → (tried : Bool) (later : List Tried)
     → value_attempts m dir r l vs tried later ≡ says (first_value vs) l r x ∷ cond (ends_search x) [] (value_attempts m dir r l more true later)
 value_met m dir r l vs more v x e h tried later =
@@ -67,7 +68,7 @@ module _ (m : Meaning) (dir r : Text) (ls : List Alias) (i : ℕ) (a : Alias) (s
   row_there p = ap (λ (xs : List Alias). left_of m dir r xs p) step
 
   -- an attempt of the label that was come to is the next of all
-  pub next_taken : (p new : Progress) (x : Attempt (Held 255)) → new.label ≡ i
+  pub next_taken : (p new : Progress) (x : Result (Attempt (Held 255)) TooLong) → new.label ≡ i
       → row_left m dir r a p later ≡ row_said a new r x ∷ cond new.done [] (row_left m dir r a new later)
       → left_of m dir r (drop i ls) p ≡ says (value_tried ls new) (label_tried ls new) r x ∷ left m dir r ls new
   next_taken p new x at h =

@@ -1,5 +1,5 @@
 -- What is left of the attempts when some were made, and what an attempt says. Assumes nothing.
-use Rattle.std.specs.Prelude.{◌≡◌, ℕ, ◌+◌, ◌-◌, Bool, true, false, cond, List, [], ◌∷◌, take, drop, Some, None, Option, ◌==◌, nat_lt}
+use Rattle.std.specs.Prelude.{◌≡◌, ℕ, ◌+◌, ◌-◌, Bool, true, false, cond, List, [], ◌∷◌, take, drop, Some, None, Option, Ok, Err, Result, ◌==◌, nat_lt}
 use Rattle.texts.specs.declared.text.Text.{Text as Held}
 use Rattle.texts.specs.Held.{bytes_of}
 use Rattle.texts.specs.Texts.{Text}
@@ -10,15 +10,16 @@ use Rattle.alias.specs.declared.attempts.Attempt.TheVariants as answer
 use Rattle.alias.specs.Answers.{request_of}
 use Rattle.alias.specs.declared.attempts.Progress.{Progress}
 use Rattle.alias.specs.declared.rewrite.NewRequest.TheVariants as new
+use Rattle.alias.specs.declared.rewrite.TooLong.{TooLong}
 use Rattle.alias.specs.Attempts.{Attempt as Tried, again, attempts, ignored, overlong, unmatched, value_attempts}
 use Rattle.alias.specs.Forms.{key, touches}
 
 -- nothing is tried behind it
-abbrev pub ends_search : {T : Type 0} → Attempt T → Bool
-ends_search (answer.Again new) = false
-ends_search (answer.Ignored t) = true
-ends_search answer.Unmatched = true
-ends_search answer.TooLong = true
+abbrev pub ends_search : {T : Type 0} → Result (Attempt T) TooLong → Bool
+ends_search (Ok (answer.Again new)) = false
+ends_search (Ok (answer.Ignored t)) = true
+ends_search (Ok answer.Unmatched) = true
+ends_search (Err e) = true
 
 -- the text of a value
 abbrev pub value_text : Value → Text
@@ -26,28 +27,28 @@ value_text ignore = []
 value_text (to v) = v
 
 -- what an attempt says of a value, a label and a request, by how its text is read
-abbrev pub said_of : {T : Type 0} → (T → Text) → Text → Text → Text → Attempt T → Tried
-said_of read v l r (answer.Again new) = again (request_of read v new)
-said_of read v l r (answer.Ignored t) = ignored (read t)
-said_of read v l r answer.Unmatched = unmatched r (key l)
-said_of read v l r answer.TooLong = overlong
+abbrev pub said_of : {T : Type 0} → (T → Text) → Text → Text → Text → Result (Attempt T) TooLong → Tried
+said_of read v l r (Ok (answer.Again new)) = again (request_of read v new)
+said_of read v l r (Ok (answer.Ignored t)) = ignored (read t)
+said_of read v l r (Ok answer.Unmatched) = unmatched r (key l)
+said_of read v l r (Err e) = overlong
 
 -- what an attempt says whose text stands at the front of the work text
-abbrev pub said_by : Text → Text → Text → List ℕ → Attempt ℕ → Tried
+abbrev pub said_by : Text → Text → Text → List ℕ → Result (Attempt ℕ) TooLong → Tried
 said_by v l r work x = said_of (λ n. take n work) v l r x
 
 -- what an attempt says whose text is held by value
-abbrev pub says : Text → Text → Text → Attempt (Held 255) → Tried
+abbrev pub says : Text → Text → Text → Result (Attempt (Held 255)) TooLong → Tried
 says v l r x = said_of bytes_of v l r x
 
 -- how long the text is that an attempt has written
-abbrev pub written_length : Option (Attempt ℕ) → ℕ
+abbrev pub written_length : Option (Result (Attempt ℕ) TooLong) → ℕ
 written_length None = 0
-written_length (Some (answer.Again new.Value)) = 0
-written_length (Some (answer.Again (new.Made n))) = n
-written_length (Some (answer.Ignored n)) = n
-written_length (Some answer.Unmatched) = 0
-written_length (Some answer.TooLong) = 0
+written_length (Some (Ok (answer.Again new.Value))) = 0
+written_length (Some (Ok (answer.Again (new.Made n)))) = n
+written_length (Some (Ok (answer.Ignored n))) = n
+written_length (Some (Ok answer.Unmatched)) = 0
+written_length (Some (Err e)) = 0
 
 -- the first of the labels, its values, and the first of these
 abbrev pub label_of : List Alias → Text
@@ -70,12 +71,12 @@ abbrev pub value_tried : List Alias → Progress → Text
 value_tried aliases p = first_value (drop (p.value - 1) (values_of (drop p.label aliases)))
 
 -- what an attempt says, where it was made
-abbrev pub said : List Alias → Progress → Text → List ℕ → Attempt ℕ → Tried
+abbrev pub said : List Alias → Progress → Text → List ℕ → Result (Attempt ℕ) TooLong → Tried
 said aliases p = said_by (value_tried aliases p) (label_tried aliases p)
 
 module _ (m : Meaning) (dir r : Text) where
   -- the first of a label's values that is not passed over, at its place; or none is left
-  abbrev pub ValueFound : Alias → List Value → Bool → List Tried → Option (ℕ × Attempt (Held 255)) → Type 0
+  abbrev pub ValueFound : Alias → List Value → Bool → List Tried → Option (ℕ × Result (Attempt (Held 255)) TooLong) → Type 0
   ValueFound a vs tried later None = value_attempts m dir r a.label vs tried later ≡ value_attempts m dir r a.label [] tried later
   ValueFound a vs tried later (Some (i, x)) =
       value_attempts m dir r a.label vs tried later
@@ -108,7 +109,7 @@ RowTaken before None after done later = (before ≡ later) × (done ≡ false)
 RowTaken before (Some t) after done later = before ≡ t ∷ cond done [] after
 
 -- what an attempt says at its label
-abbrev pub row_said : Alias → Progress → Text → Attempt (Held 255) → Tried
+abbrev pub row_said : Alias → Progress → Text → Result (Attempt (Held 255)) TooLong → Tried
 row_said a p = says (first_value (drop (p.value - 1) a.values)) a.label
 
 -- where the labels have been come to: the same one, or the first value of another

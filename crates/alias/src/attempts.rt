@@ -26,12 +26,10 @@ pub enum Attempt<T = usize> {
     Ignored(T),
     /// Values were tried, and none is left.
     Unmatched,
-    /// A text would pass 255 bytes.
-    TooLong,
 }
 
-// An attempt whose text is held by value.
-type HeldAttempt = Attempt<Text<MAX_LEN>>;
+// An attempt whose text is held by value, or that a text would pass 255 bytes.
+type HeldAttempt = Result<Attempt<Text<MAX_LEN>>, TooLong>;
 
 // The end is a mark and no state of its own, since the label that was come to is asked for behind it too.
 /// How far the labels were tried for a request: the label that was come to, which of its values comes next, and whether all is done.
@@ -42,33 +40,34 @@ pub struct Progress {
     done: bool,
 }
 
-// A request from a directory.
+// A request from a directory, inside this crate: the calls take the two apart, as the Rust does.
 #[derive(Clone, Copy)]
 struct Import<'a> {
     directory: &'a [u8],
     request: &'a [u8],
 }
 
-impl HeldAttempt {
-    // Whether nothing is tried behind it.
-    fn is_last(self) -> bool
-        ensures all_but_another_request { result ≡ ends_search self }
-    {
-        !matches!(self, Attempt::Again(_))
-    }
+// Whether nothing is tried behind an attempt.
+fn is_last(attempt: &HeldAttempt) -> bool
+    ensures all_but_another_request { result ≡ ends_search attempt.now }
+{
+    !matches!(attempt, Ok(Attempt::Again(_)))
+}
 
-    // The attempt with its text at the front of `work`, which holds any text.
-    fn written(self, work: &mut [u8]) -> Attempt
-        requires room_for_a_text { 255 ≤ length work.old }
-        ensures says_the_same { (v l r : Bytes) → said_by v l r work.new result ≡ says v l r self }
-        ensures only_its_text_is_written { work.new ≡ fronted (take (written_length (Some result)) work.new) work.old }
-    {
-        match self {
-            Attempt::Again(new) => Attempt::Again(new.written(work).unwrap()),
-            Attempt::Ignored(path) => Attempt::Ignored(copy_text(path.as_bytes(), work).unwrap()),
-            Attempt::Unmatched => Attempt::Unmatched,
-            Attempt::TooLong => Attempt::TooLong,
+// The caller lends the work text, by a rule of the project.
+// An attempt with its text at the front of `work`, which holds any text.
+fn written(attempt: HeldAttempt, work: &mut [u8]) -> Result<Attempt, TooLong>
+    requires room_for_a_text { 255 ≤ length work.old }
+    ensures says_the_same { (v l r : Bytes) → said_by v l r work.new result ≡ says v l r attempt }
+    ensures only_its_text_is_written { work.new ≡ fronted (take (written_length (Some result)) work.new) work.old }
+{
+    match attempt? {
+        Attempt::Again(new) => Ok(Attempt::Again(new.written(work)?)),
+        Attempt::Ignored(path) => {
+            let len = copy_text(path.as_bytes(), work).ok_or(TooLong)?;
+            Ok(Attempt::Ignored(len))
         }
+        Attempt::Unmatched => Ok(Attempt::Unmatched),
     }
 }
 
@@ -77,10 +76,8 @@ impl<'a> Import<'a> {
     fn ignored(self, label: &[u8]) -> HeldAttempt
         ensures label_joined_to_the_directory { (v r : Bytes) → says v label.now r result ≡ ignoring self.entry.directory.now label.now }
     {
-        match joined(self.directory, key(label)) {
-            Some(path) => Attempt::Ignored(path),
-            None => Attempt::TooLong,
-        }
+        let path = joined(self.directory, key(label)).ok_or(TooLong)?;
+        Ok(Attempt::Ignored(path))
     }
 
     // The attempt of one value of a label that touches it; none if the value is passed over.
@@ -97,10 +94,10 @@ impl<'a> Import<'a> {
     {
         match value {
             AliasValue::Ignore => Some(self.ignored(label)),
-            AliasValue::Path(text) => match rewrite_value(tree, label, text, self.request)? {
-                Ok(new) => Some(Attempt::Again(new)),
-                Err(TooLong) => Some(Attempt::TooLong),
-            },
+            AliasValue::Path(text) => {
+                let new = rewrite_value(tree, label, text, self.request)?;
+                Some(new.map(Attempt::Again))
+            }
         }
     }
 
@@ -206,14 +203,14 @@ impl Progress {
     {
         if let Some((i, attempt)) = import.next_value(tree, row, self.value) {
             self.value = i + 1;
-            self.done = attempt.is_last();
+            self.done = is_last(&attempt);
             return Some(attempt);
         }
         if self.value == 0 {
             return None;
         }
         self.done = true;
-        Some(Attempt::Unmatched)
+        Some(Ok(Attempt::Unmatched))
     }
 
     // The next attempt of a label; none where it does not touch, or all its values are passed over.
@@ -245,17 +242,17 @@ impl Progress {
         directory: &[u8],
         request: &[u8],
         work: &mut [u8],
-    ) -> Option<Attempt>
+    ) -> Option<Result<Attempt, TooLong>>
         requires sound { T.FileTree.sound tree.old }
         ensures next_in_the_list { 255 ≤ length work.old → Taken (left (T.FileTree.meaning tree.old) directory.now request.now (map alias_of aliases.now) self.old) (option_map (said (map alias_of aliases.now) self.new request.now work.new) result) (left (T.FileTree.meaning tree.old) directory.now request.now (map alias_of aliases.now) self.new) }
-        ensures short_work_text_is_refused { length work.old < 255 → (result ≡ Some Attempt.TooLong) × ((self.new ≡ self.old) × (tree.new ≡ tree.old)) }
+        ensures short_work_text_is_refused { length work.old < 255 → (result ≡ Some (Err (record {}))) × ((self.new ≡ self.old) × (tree.new ≡ tree.old)) }
         ensures only_its_text_is_written { work.new ≡ fronted (take (written_length result) work.new) work.old }
         ensures untouching_label_changes_nothing { UntouchingLabelChangesNothing (T.FileTree.meaning tree.old) directory.now request.now }
         ensures same_meaning { T.FileTree.meaning tree.new ≡ T.FileTree.meaning tree.old }
         ensures still_sound { T.FileTree.sound tree.new }
     {
         if work.len() < MAX_LEN {
-            return Some(Attempt::TooLong);
+            return Some(Err(TooLong));
         }
         if self.done {
             return None;
@@ -265,7 +262,7 @@ impl Progress {
         for i in self.label..aliases.len() {
             self.go_to(i);
             if let Some(attempt) = self.try_label(tree, &aliases[i], import) {
-                return Some(attempt.written(work));
+                return Some(written(attempt, work));
             }
         }
         self.done = true;

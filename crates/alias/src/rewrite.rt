@@ -14,6 +14,7 @@ ghost use Rattle.alias.specs.Forms.{behind};
 
 use crate::label::{AliasMatchKind, split_star};
 use paths::{joined, normalized};
+use settings::MAX_VALUE;
 use stack::Full;
 use texts::{MAX_LEN, Place, Text, copy_text};
 use tree::{FileTree, Kind};
@@ -51,6 +52,7 @@ impl NewRequest {
 }
 
 impl NewRequest<Text<MAX_LEN>> {
+    // The caller lends the work text, by a rule of the project.
     // The request with its text at the front of a work text.
     pub(crate) fn written(self, work: &mut [u8]) -> Result<NewRequest, TooLong>
         ensures length_if_it_fits { result_map_both Some (λ e. e) result ≡ told (requested (Ok self)) (length work.old) }
@@ -119,14 +121,18 @@ fn join_tail(normal: &[u8], tail: &[u8]) -> Requested
 }
 
 // A value normalized; it is short enough.
-fn normal(value: &Text<96>) -> Text<MAX_LEN>
+fn normal(value: &Text<MAX_VALUE>) -> Text<MAX_LEN>
     ensures normal_value { bytes_of result ≡ normalize_of (bytes_of value.now) }
 {
     normalized(value.as_bytes()).unwrap()
 }
 
 // What a value makes of a request with this tail behind a plain label.
-fn rewrite_plain<T: FileTree>(tree: &mut T, value: &Text<96>, tail: &[u8]) -> Option<Requested>
+fn rewrite_plain<T: FileTree>(
+    tree: &mut T,
+    value: &Text<MAX_VALUE>,
+    tail: &[u8],
+) -> Option<Requested>
     requires sound { T.FileTree.sound tree.old }
     ensures rewritten_by_its_tail { rewriting result ≡ continued (T.FileTree.meaning tree.old) (bytes_of value.now) tail.now }
     ensures same_meaning { T.FileTree.meaning tree.new ≡ T.FileTree.meaning tree.old }
@@ -147,7 +153,7 @@ fn rewrite_plain<T: FileTree>(tree: &mut T, value: &Text<96>, tail: &[u8]) -> Op
 fn rewrite_by_form<T: FileTree>(
     tree: &mut T,
     kind: AliasMatchKind,
-    value: &Text<96>,
+    value: &Text<MAX_VALUE>,
     request: &[u8],
 ) -> Option<Requested>
     requires sound { T.FileTree.sound tree.old }
@@ -165,12 +171,13 @@ fn rewrite_by_form<T: FileTree>(
     }
 }
 
+// Tree, label, value and request are four parameters, as the Rust has them; each call says what it asked of its own ones.
 // What a value of a label makes of a request that the label touches; none if the value is passed over.
 #[tactic(auto, unfolding(crate::specs::Rewrites::rewritten))]
 pub(crate) fn rewrite_value<T: FileTree>(
     tree: &mut T,
     label: &[u8],
-    value: &Text<96>,
+    value: &Text<MAX_VALUE>,
     request: &[u8],
 ) -> Option<Requested>
     requires sound { T.FileTree.sound tree.old }
@@ -190,7 +197,7 @@ pub(crate) fn rewrite_value<T: FileTree>(
 pub fn load_alias_value<T: FileTree>(
     tree: &mut T,
     label: &[u8],
-    value: &Text<96>,
+    value: &Text<MAX_VALUE>,
     request: &[u8],
     work: &mut [u8],
 ) -> Result<Option<NewRequest>, TooLong>
@@ -203,6 +210,7 @@ pub fn load_alias_value<T: FileTree>(
     ensures still_sound { T.FileTree.sound tree.new }
     ensures asked_once_if_a_plain_label_has_a_tail { AskedIf T.FileTree.steps (asks label.now (bytes_of value.now) request.now) (kind_of (normalize_of (bytes_of value.now))) tree.old tree.new }
 {
+    // By hand, not by `map` and `transpose`: of what a closure writes to `work` the proof did not close.
     match rewrite_value(tree, label, value, request) {
         Some(new) => Ok(Some(new?.written(work)?)),
         None => Ok(None),

@@ -25,8 +25,11 @@ impl From<Full> for Fault {
     }
 }
 
+// A candidate whose text is held by value, or why nothing more is tried.
+pub(crate) type Formed = Result<Text<MAX_LEN>, Fault>;
+
 // A path with a name behind it, which may be nothing or has its slash, and an extension.
-pub(crate) fn form(path: &[u8], name: &[u8], extension: &[u8]) -> Result<Text<MAX_LEN>, Fault>
+pub(crate) fn form(path: &[u8], name: &[u8], extension: &[u8]) -> Formed
     ensures name_and_extension_behind_the_path { (of : Path) → formed_by of result ≡ formed ((path.now ++ name.now) ++ extension.now) }
 {
     let mut text = Text::empty();

@@ -9,9 +9,12 @@ ghost use Rattle.candidates.specs.Answers.{formed_by};
 ghost use Rattle.candidates.specs.Candidates.{extended, indexed};
 ghost use Rattle.candidates.specs.Left.{form_candidates};
 
-use crate::forming::{Fault, form};
-use settings::Settings;
-use texts::{MAX_LEN, Text};
+use crate::forming::{Formed, form};
+use settings::{MAX_EXTENSION, MAX_MAIN_FILE, Settings};
+use texts::Text;
+
+// The longest main file with a slash in front, in bytes.
+const MAX_NAME: usize = MAX_MAIN_FILE + 1;
 
 // Whether a path is tried itself or by its main files.
 #[derive(Clone, Copy, PartialEq, Eq, Debug)]
@@ -32,9 +35,9 @@ pub(crate) struct Sought<'a> {
 fn extended_candidate(
     path: &[u8],
     name: &[u8],
-    extensions: &[Text<12>],
+    extensions: &[Text<MAX_EXTENSION>],
     place: usize,
-) -> Option<Result<Text<MAX_LEN>, Fault>>
+) -> Option<Formed>
     ensures place_among_the_extensions { IsSome result → place < length extensions.now }
     ensures extension_at_the_place { (of : Path) → option_map (formed_by of) result ≡ item_at (extended (path.now ++ name.now) (map bytes_of extensions.now)) place }
 {
@@ -47,7 +50,7 @@ fn extended_candidate(
 }
 
 // A name with a slash in front.
-fn slash_before(name: &Text<16>) -> Text<17>
+fn slash_before(name: &Text<MAX_MAIN_FILE>) -> Text<MAX_NAME>
     ensures slash_and_name { bytes_of result ≡ 47 ∷ bytes_of name.now }
 {
     let mut text = Text::empty();
@@ -59,10 +62,10 @@ fn slash_before(name: &Text<16>) -> Text<17>
 // Each main file below a path with all extensions in turn: the candidate at a place; none beyond the last. Main files are gone through by their index, in the order written.
 fn named_candidate(
     path: &[u8],
-    names: &[Text<16>],
-    extensions: &[Text<12>],
+    names: &[Text<MAX_MAIN_FILE>],
+    extensions: &[Text<MAX_EXTENSION>],
     place: usize,
-) -> Option<Result<Text<MAX_LEN>, Fault>>
+) -> Option<Formed>
     requires few { length extensions.now ≤ 8 }
     ensures place_within_the_table { IsSome result → place < 8 * length names.now }
     ensures main_file_at_the_place { (of : Path) → option_map (formed_by of) result ≡ item_at (indexed path.now (map bytes_of extensions.now) (map bytes_of names.now)) place }
@@ -80,7 +83,7 @@ fn named_candidate(
 
 impl Sought<'_> {
     // The path itself or with an extension: the candidate at a place; none beyond the last.
-    fn file_candidate(&self, place: usize) -> Option<Result<Text<MAX_LEN>, Fault>>
+    fn file_candidate(&self, place: usize) -> Option<Formed>
         ensures at_most_9_files { IsSome result → place < 9 }
         ensures file_at_the_place { (of : Path) → option_map (formed_by of) result ≡ item_at (form_candidates (tables self.now.settings.now) self.now.fully_specified Form.File self.now.path.now) place }
     {
@@ -98,7 +101,7 @@ impl Sought<'_> {
     }
 
     // The main files below the path: the candidate at a place; none beyond the last.
-    fn index_candidate(&self, place: usize) -> Option<Result<Text<MAX_LEN>, Fault>>
+    fn index_candidate(&self, place: usize) -> Option<Formed>
         ensures at_most_32_indexes { IsSome result → place < 32 }
         ensures index_at_the_place { (of : Path) → option_map (formed_by of) result ≡ item_at (form_candidates (tables self.now.settings.now) self.now.fully_specified Form.Index self.now.path.now) place }
     {
@@ -114,7 +117,7 @@ impl Sought<'_> {
     }
 
     // The candidates of the path in one of the two forms: the one at a place; none beyond the last.
-    pub(crate) fn candidate(&self, form: Form, place: usize) -> Option<Result<Text<MAX_LEN>, Fault>>
+    pub(crate) fn candidate(&self, form: Form, place: usize) -> Option<Formed>
         ensures at_most_32_candidates { IsSome result → place < 32 }
         ensures candidate_at_the_place { (of : Path) → option_map (formed_by of) result ≡ item_at (form_candidates (tables self.now.settings.now) self.now.fully_specified form self.now.path.now) place }
     {

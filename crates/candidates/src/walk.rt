@@ -12,12 +12,15 @@ ghost use Rattle.candidates.specs.Candidates.{candidates, main_text};
 ghost use Rattle.candidates.specs.Left.{Stepped, Taken, behind_main, behind_path, ended, left, rank, stage_left};
 ghost use Rattle.candidates.specs.declared.forming.Fault.TheVariants.{TooLong};
 
-use crate::forming::Fault;
+use crate::forming::{Fault, Formed};
 use crate::places::{Form, Sought};
 use paths::joined;
 use settings::Settings;
-use texts::{MAX_LEN, Text};
-use tree::{Broken, FileTree, Host, Kind};
+use texts::{MAX_LEN, Text, copy_text};
+use tree::{Broken, FileTree, Host, Kind, MAX_MAIN};
+
+// The longest main text behind `./`, in bytes.
+const MAX_JOINED: usize = MAX_MAIN + 2;
 
 // Each stage has what it needs beside it, and one match says what each does.
 // Where in the list the walk is: the path, whether it is a directory and its manifest, a main text, or the end.
@@ -37,7 +40,7 @@ pub struct Walk {
 }
 
 // A main text as it is joined: behind `./` if it is empty or absolute.
-fn as_joined(main: &[u8]) -> Text<34>
+fn as_joined(main: &[u8]) -> Text<MAX_JOINED>
     requires short_main_text { length main.now ≤ 32 }
     ensures behind_a_dot_if_not_relative { bytes_of result ≡ main_text main.now }
 {
@@ -90,12 +93,9 @@ fn begin(stage: Stage) -> Walk
     Walk { stage, place: 0 }
 }
 
+// Each step says of its own stage what is left then, and that it is nearer to the end. The last match stands in two of them: a function for both would take the candidate, both stages and the place.
 // The path in one of the two forms: the candidate at a place, or the next stage.
-fn step_path(
-    sought: &Sought,
-    form: Form,
-    place: usize,
-) -> (Option<Result<Text<MAX_LEN>, Fault>>, Walk)
+fn step_path(sought: &Sought, form: Form, place: usize) -> (Option<Formed>, Walk)
     ensures next_or_moved { (m : Meaning) → Stepped (stage_left (tables sought.now.settings.now) sought.now.fully_specified sought.now.path.now m (Stage.Path form) place) (option_map (formed_by sought.now.path.now) result.0) (left (tables sought.now.settings.now) sought.now.fully_specified sought.now.path.now m result.1) }
     ensures nearer_to_the_end { result.0 ≡ None → rank result.1.stage < rank (Stage.Path form) }
 {
@@ -110,10 +110,7 @@ fn step_path(
 }
 
 // Whether the path is a directory, and its manifest; each is asked once.
-fn step_directory<H: Host>(
-    host: &mut H,
-    path: &[u8],
-) -> (Option<Result<Text<MAX_LEN>, Fault>>, Walk)
+fn step_directory<H: Host>(host: &mut H, path: &[u8]) -> (Option<Formed>, Walk)
     requires sound { H.FileTree.sound host.old }
     ensures next_or_moved { (t : Tables) (fully : Bool) → Stepped (stage_left t fully path.now (H.FileTree.meaning host.old) Stage.Directory 0) (option_map (formed_by path.now) result.0) (left t fully path.now (H.FileTree.meaning host.old) result.1) }
     ensures nearer_to_the_end { result.0 ≡ None → rank result.1.stage < rank Stage.Directory }
@@ -137,7 +134,7 @@ fn step_main<H: Host>(
     main: usize,
     form: Form,
     place: usize,
-) -> (Option<Result<Text<MAX_LEN>, Fault>>, Walk)
+) -> (Option<Formed>, Walk)
     requires sound { H.FileTree.sound host.now }
     ensures next_or_moved { Stepped (stage_left (tables sought.now.settings.now) sought.now.fully_specified sought.now.path.now (H.FileTree.meaning host.now) (Stage.Main main form) place) (option_map (formed_by sought.now.path.now) result.0) (left (tables sought.now.settings.now) sought.now.fully_specified sought.now.path.now (H.FileTree.meaning host.now) result.1) }
     ensures nearer_to_the_end { result.0 ≡ None → rank result.1.stage < rank (Stage.Main main form) }
@@ -163,17 +160,6 @@ fn step_main<H: Host>(
     }
 }
 
-// A text at the front of a buffer, and its length.
-fn hand_out(text: &Text<MAX_LEN>, out: &mut [u8]) -> usize
-    requires room_for_a_text { 255 ≤ length out.old }
-    ensures length_of_the_text { result ≡ length (bytes_of text.now) }
-    ensures text_in_front { out.new ≡ fronted (bytes_of text.now) out.old }
-{
-    let bytes = text.as_bytes();
-    out[0..bytes.len()].copy_from_slice(bytes);
-    bytes.len()
-}
-
 impl Walk {
     /// Before any candidate; a request that asks for what is in a directory leaves out the path as a file.
     pub fn new(inside: bool) -> Walk
@@ -187,11 +173,7 @@ impl Walk {
     }
 
     // One step: a candidate is formed, or the walk moves on to the next stage.
-    fn step<H: Host>(
-        self,
-        host: &mut H,
-        sought: &Sought,
-    ) -> (Option<Result<Text<MAX_LEN>, Fault>>, Walk)
+    fn step<H: Host>(self, host: &mut H, sought: &Sought) -> (Option<Formed>, Walk)
         requires sound { H.FileTree.sound host.old }
         ensures next_or_moved { Stepped (left (tables sought.now.settings.now) sought.now.fully_specified sought.now.path.now (H.FileTree.meaning host.old) self) (option_map (formed_by sought.now.path.now) result.0) (left (tables sought.now.settings.now) sought.now.fully_specified sought.now.path.now (H.FileTree.meaning host.old) result.1) }
         ensures nearer_to_the_end { result.0 ≡ None → ended self.stage ≡ false → rank result.1.stage < rank self.stage }
@@ -207,11 +189,7 @@ impl Walk {
     }
 
     // The next candidate of a path, with its text by value; none is left at the end.
-    fn advance<H: Host>(
-        &mut self,
-        host: &mut H,
-        sought: &Sought,
-    ) -> Option<Result<Text<MAX_LEN>, Fault>>
+    fn advance<H: Host>(&mut self, host: &mut H, sought: &Sought) -> Option<Formed>
         requires sound { H.FileTree.sound host.old }
         ensures next_in_the_list { Taken (left (tables sought.now.settings.now) sought.now.fully_specified sought.now.path.now (H.FileTree.meaning host.old) self.old) (option_map (formed_by sought.now.path.now) result) (left (tables sought.now.settings.now) sought.now.fully_specified sought.now.path.now (H.FileTree.meaning host.old) self.new) }
         ensures same_meaning { H.FileTree.meaning host.new ≡ H.FileTree.meaning host.old }
@@ -227,6 +205,7 @@ impl Walk {
         None
     }
 
+    // The caller lends the buffer, by a rule of the project.
     /// The next candidate of a path, by the length of its text, or why nothing more is tried; none is left at the end. The text is written to the front of `out`, which holds any text if it has 255 bytes.
     pub fn next<H: Host>(
         &mut self,
@@ -251,8 +230,9 @@ impl Walk {
             fully_specified,
             path,
         };
+        // By hand, not by `map`: of what a closure writes to `out` the proof did not close.
         match self.advance(host, &sought)? {
-            Ok(text) => Some(Ok(hand_out(&text, out))),
+            Ok(text) => Some(Ok(copy_text(text.as_bytes(), out).unwrap())),
             Err(fault) => Some(Err(fault)),
         }
     }

@@ -99,8 +99,8 @@ fn does_the_same(row: Sample) -> Result<bool, Fail> {
     for did in row.did {
         let next = progress.next(&mut listing, aliases, b"/lib", row.request, &mut work);
         let same = match next {
-            Some(attempt) => is_same(attempt, &progress, aliases, &work, *did),
-            None => false,
+            Some(Ok(attempt)) => is_same(attempt, &progress, aliases, &work, *did),
+            Some(Err(_)) | None => false,
         };
         if !same {
             return Ok(false);

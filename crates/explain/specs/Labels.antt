@@ -1,5 +1,5 @@
 -- The lines on the labels that touch a request, and on what they try. Assumes nothing.
-use Rattle.std.specs.Prelude.{ℕ, Bool, true, false, cond, List, [], ◌∷◌, ◌++◌, take, drop, Some, None, Option, codes}
+use Rattle.std.specs.Prelude.{ℕ, Bool, true, false, cond, List, [], ◌∷◌, ◌++◌, take, drop, Some, None, Option, Ok, Err, Result, codes}
 use Rattle.std.specs.List.{flat_map}
 use Rattle.texts.specs.Held.{bytes_of}
 use Rattle.texts.specs.Texts.{Text}
@@ -7,17 +7,18 @@ use Rattle.lines.specs.Sheets.{LINE_END}
 use Rattle.settings.specs.Tables.{Alias}
 use Rattle.alias.specs.Forms.{touches}
 use Rattle.alias.specs.Left.{label_of}
+use Rattle.alias.specs.declared.rewrite.TooLong.{TooLong}
 use Rattle.explain.specs.declared.trial.Outcome.{Outcome}
-use Rattle.explain.specs.declared.trial.Outcome.TheVariants.{Again, Ignored, Unmatched, TooLong}
+use Rattle.explain.specs.declared.trial.Outcome.TheVariants.{Again, Ignored, Unmatched}
 use Rattle.explain.specs.declared.trial.Trial.{Trial}
 use Rattle.explain.specs.Legible.{legible, phrase}
 
 -- what comes of a label, as the first thing or behind others
-abbrev pub outcome_words : Bool → Outcome → Text
-outcome_words first (Again t) = cond first (codes ": tried is ") (codes ", then ") ++ legible (bytes_of t)
-outcome_words first (Ignored t) = cond first (codes ": ignored with 24 is ") (codes ", then ignored with 24 is ") ++ legible (bytes_of t)
-outcome_words first Unmatched = codes ", and where none is found it is refused with 23"
-outcome_words first TooLong = cond first (codes ": ") (codes ", then ") ++ codes "refused with 28, since a text passes 255 bytes"
+abbrev pub outcome_words : Bool → Result Outcome TooLong → Text
+outcome_words first (Ok (Again t)) = cond first (codes ": tried is ") (codes ", then ") ++ legible (bytes_of t)
+outcome_words first (Ok (Ignored t)) = cond first (codes ": ignored with 24 is ") (codes ", then ignored with 24 is ") ++ legible (bytes_of t)
+outcome_words first (Ok Unmatched) = codes ", and where none is found it is refused with 23"
+outcome_words first (Err e) = cond first (codes ": ") (codes ", then ") ++ codes "refused with 28, since a text passes 255 bytes"
 
 -- all that comes of a label
 abbrev pub outcomes_words : List Trial → Text

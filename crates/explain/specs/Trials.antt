@@ -1,5 +1,5 @@
 -- What a trial says. Assumes nothing.
-use Rattle.std.specs.Prelude.{ℕ, ◌+◌, Bool, true, false, cond, List, [], ◌∷◌, drop, Some, None, Option}
+use Rattle.std.specs.Prelude.{ℕ, ◌+◌, Bool, true, false, cond, List, [], ◌∷◌, drop, Some, None, Option, Ok, Err, Result}
 use Rattle.std.specs.Option.{option_map}
 use Rattle.texts.specs.Held.{bytes_of}
 use Rattle.texts.specs.Texts.{Text}
@@ -8,16 +8,17 @@ use Rattle.tree.specs.Meanings.{Meaning}
 use Rattle.alias.specs.Attempts.{Attempt, attempts, again, ignored, overlong, unmatched}
 use Rattle.alias.specs.Forms.{key}
 use Rattle.alias.specs.Left.{label_of}
+use Rattle.alias.specs.declared.rewrite.TooLong.{TooLong}
 use Rattle.explain.specs.declared.trial.Outcome.{Outcome}
 use Rattle.explain.specs.declared.trial.Outcome.TheVariants as outcome
 use Rattle.explain.specs.declared.trial.Trial.{Trial}
 
 -- what comes of a label, for a request that it touches
-abbrev pub come : Text → Text → Outcome → Attempt
-come label request (outcome.Again t) = again (bytes_of t)
-come label request (outcome.Ignored t) = ignored (bytes_of t)
-come label request outcome.Unmatched = unmatched request (key label)
-come label request outcome.TooLong = overlong
+abbrev pub come : Text → Text → Result Outcome TooLong → Attempt
+come label request (Ok (outcome.Again t)) = again (bytes_of t)
+come label request (Ok (outcome.Ignored t)) = ignored (bytes_of t)
+come label request (Ok outcome.Unmatched) = unmatched request (key label)
+come label request (Err e) = overlong
 
 -- a trial, by the label at its place
 abbrev pub tried : List Alias → Text → Trial → Attempt

@@ -7,7 +7,7 @@ ghost use Rattle.explain.specs.Answers.{answer_of, found_by, heard};
 
 use crate::reading::Reading;
 use specifier::Branch;
-use texts::Text;
+use texts::{MAX_LEN, Text};
 use tree::{Broken, FileTree, Host, Kind, Way};
 
 // Five cases, and not an option in a result: a request may also have no path to ask for.
@@ -16,7 +16,7 @@ use tree::{Broken, FileTree, Host, Kind, Way};
 pub enum Answer {
     Kind(Kind),
     NoPath,
-    Found(Text<255>),
+    Found(Text<MAX_LEN>),
     Missing,
     Broken,
 }
@@ -28,7 +28,7 @@ fn look_up<H: Host>(host: &mut H, way: Way, request: &[u8], directory: &[u8]) ->
     ensures same_meaning { H.FileTree.meaning host.new ≡ H.FileTree.meaning host.old }
     ensures still_sound { H.FileTree.sound host.new }
 {
-    let mut bytes = [0; 255];
+    let mut bytes = [0; MAX_LEN];
     match host.lookup(way, request, directory, &mut bytes) {
         Ok(Some(len)) => match Text::new(&bytes[0..len]) {
             Some(path) => Answer::Found(path),

@@ -12,7 +12,7 @@ use crate::trial::held;
 use candidates::{Fault, Walk};
 use settings::Settings;
 use std::alloc::{AllocError, Global};
-use texts::{Place, Text};
+use texts::{MAX_LEN, Place, Text};
 use tree::{FileTree, Host, Kind, Policy, is_acceptable};
 
 /// What becomes of a candidate.
@@ -30,7 +30,7 @@ pub enum Verdict {
 /// A candidate with its verdict.
 #[derive(Clone, Copy)]
 pub struct Offer {
-    pub text: Text<255>,
+    pub text: Text<MAX_LEN>,
     pub verdict: Verdict,
 }
 
@@ -39,7 +39,7 @@ pub struct Offer {
 fn verdict_on<T: FileTree, P: Policy>(
     tree: &mut T,
     policy: &P,
-    restrictions: &[Text<255>],
+    restrictions: &[Text<MAX_LEN>],
     path: &[u8],
 ) -> Verdict
     requires sound { T.FileTree.sound tree.old }
@@ -67,7 +67,7 @@ fn verdict_on<T: FileTree, P: Policy>(
 fn judge<T: FileTree, P: Policy>(
     tree: &mut T,
     policy: &P,
-    restrictions: &[Text<255>],
+    restrictions: &[Text<MAX_LEN>],
     candidate: Result<usize, Fault>,
     out: &[u8],
 ) -> Result<Offer, Fault>
@@ -83,6 +83,7 @@ fn judge<T: FileTree, P: Policy>(
     Ok(Offer { text, verdict })
 }
 
+// The buffer is lent to the walk, by a rule of the project.
 /// All candidates of a path, in their order, each with its verdict.
 pub fn offers<H: Host, P: Policy>(
     alloc: Global,
@@ -97,7 +98,7 @@ pub fn offers<H: Host, P: Policy>(
     ensures same_meaning { H.FileTree.meaning host.new ≡ H.FileTree.meaning host.old }
     ensures still_sound { H.FileTree.sound host.new }
 {
-    let mut out = [0; 255];
+    let mut out = [0; MAX_LEN];
     let mut walk = Walk::new(inside);
     let mut found = Vec::new(alloc);
     let fully = settings.fully_specified();

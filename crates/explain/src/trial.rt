@@ -8,30 +8,29 @@ ghost use Rattle.alias.specs.Left.{said};
 ghost use Rattle.explain.specs.Trials.{any_tried, deciding, tried};
 
 use crate::question::Question;
-use alias::{Attempt, Progress};
+use alias::{Attempt, Progress, TooLong};
 use settings::AliasRow;
 use std::alloc::{AllocError, Global};
-use texts::{Place, Text};
+use texts::{MAX_LEN, Place, Text};
 use tree::FileTree;
 
 /// What comes of a label.
 #[derive(Clone, Copy)]
 pub enum Outcome {
-    Again(Text<255>),
-    Ignored(Text<255>),
+    Again(Text<MAX_LEN>),
+    Ignored(Text<MAX_LEN>),
     Unmatched,
-    TooLong,
 }
 
-/// What comes of a label, with its place in the table.
+/// What comes of a label, or that a text would pass 255 bytes, with the label's place in the table.
 #[derive(Clone, Copy)]
 pub struct Trial {
     pub label: usize,
-    pub outcome: Outcome,
+    pub outcome: Result<Outcome, TooLong>,
 }
 
 /// A text by value.
-pub(crate) fn held(text: &[u8]) -> Text<255>
+pub(crate) fn held(text: &[u8]) -> Text<MAX_LEN>
     requires at_most_255_bytes { length text.now ≤ 255 }
     ensures same_bytes { bytes_of result ≡ text.now }
 {
@@ -40,16 +39,20 @@ pub(crate) fn held(text: &[u8]) -> Text<255>
 
 impl Trial {
     // An attempt with its texts, the made one from the front of the work text.
-    fn of(progress: &Progress, aliases: &[AliasRow], attempt: Attempt, work: &[u8]) -> Trial
+    fn of(
+        progress: &Progress,
+        aliases: &[AliasRow],
+        attempt: Result<Attempt, TooLong>,
+        work: &[u8],
+    ) -> Trial
         requires room_for_one_text { length work.now ≡ 255 }
         ensures says_the_same { (request : Bytes) → tried (map alias_of aliases.now) request result ≡ said (map alias_of aliases.now) progress.now request work.now attempt }
     {
-        let outcome = match attempt {
+        let outcome = attempt.map(|attempt| match attempt {
             Attempt::Again(new) => Outcome::Again(held(new.text(progress.value(aliases), work))),
             Attempt::Ignored(len) => Outcome::Ignored(held(Place { start: 0, len }.of(work))),
             Attempt::Unmatched => Outcome::Unmatched,
-            Attempt::TooLong => Outcome::TooLong,
-        };
+        });
         Trial {
             label: progress.place(),
             outcome,
@@ -57,6 +60,7 @@ impl Trial {
     }
 }
 
+// The work text is lent to the labels, by a rule of the project.
 /// All that the labels make of a request from a directory, in the order in which it is tried.
 pub fn trials<T: FileTree>(
     alloc: Global,
@@ -69,7 +73,7 @@ pub fn trials<T: FileTree>(
     ensures same_meaning { T.FileTree.meaning tree.new ≡ T.FileTree.meaning tree.old }
     ensures still_sound { T.FileTree.sound tree.new }
 {
-    let mut work = [0; 255];
+    let mut work = [0; MAX_LEN];
     let mut progress = Progress::new();
     let mut found = Vec::new(alloc);
     while let Some(attempt) = progress.next(
@@ -91,7 +95,7 @@ fn makes_an_attempt<T: FileTree>(tree: &mut T, aliases: &[AliasRow], question: Q
     ensures same_meaning { T.FileTree.meaning tree.new ≡ T.FileTree.meaning tree.old }
     ensures still_sound { T.FileTree.sound tree.new }
 {
-    let mut work = [0; 255];
+    let mut work = [0; MAX_LEN];
     let mut progress = Progress::new();
     let attempt = progress.next(
         tree,

@@ -69,7 +69,7 @@ pub fn write_column(n: u16) -> Option<[u8; 3]>
     Some([first, second, b'0' + ones as u8])
 }
 
-// The columns of the numbers, with a blank behind each; none where a column has no room for its number.
+// The columns of the numbers, with a blank behind each; none where a column has no room for its number. By index: of what is written through an adapter of `iter_mut` a proof knows nothing.
 pub(crate) fn write_columns<const LEN: usize>(numbers: &[u16]) -> Option<[u8; LEN]>
     requires four_bytes_each { LEN ≡ 4 * length numbers.now }
     ensures writes_the_columns { result ≡ written numbers.now }

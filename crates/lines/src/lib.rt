@@ -22,6 +22,7 @@ pub enum Refusal {
 }
 
 impl Refusal {
+    // The discriminant, by a name that a `From` would not give.
     /// The number that an answer gives for it.
     pub fn number(self) -> u8
         ensures gives_its_number { result ≡ number_of self }

@@ -5,12 +5,9 @@ ghost use Rattle.listing.specs.Kinds.{formed, line_kind, sized};
 
 use crate::refusals::Refusal;
 use texts::{MAX_LEN, is_clean};
-use tree::Way;
+use tree::{MAX_MAIN, Way};
 
-// The longest main text, in bytes.
-const MAX_MAIN: usize = 32;
-
-// The longest request, in bytes.
+// The longest request, in bytes: a number of its own, since what a sheet lists is not what a lookup accepts.
 const MAX_REQUEST: usize = 96;
 
 /// What a line lists.

@@ -117,9 +117,7 @@ fn walked_from(start: &[u8], source: &[u8], rest: Components) -> Result<Text<MAX
     requires of_the_source { subject rest ≡ source.now }
     ensures parts_joined_one_by_one { option_map bytes_of (result_ok result) ≡ walked_within start.now (texts_of (left rest.entry)) }
 {
-    let Some(mut text) = Text::new(start) else {
-        return Err(Full);
-    };
+    let mut text = Text::new(start).ok_or(Full)?;
     for place in rest {
         push_component(&mut text, place.of(source))?;
     }
@@ -143,6 +141,7 @@ pub fn joined(base: &[u8], more: &[u8]) -> Option<Text<MAX_LEN>>
     walked_from(base, more, Components::new(more)).ok()
 }
 
+// The caller lends the buffer, by a rule of the project, so its length comes back beside it; so in `normalize`.
 /// Joins `more` to `base`, at the front of `out`. None where a text on the way has more than 255 bytes or the joined text does not fit `out`; then `out` stays as it was.
 pub fn normalize_with(base: &[u8], more: &[u8], out: &mut [u8]) -> Option<usize>
     ensures length_of_the_joined_text { result ≡ length_in (joined_of base.now more.now) (length out.old) }

@@ -1,5 +1,6 @@
 // Whether an extension must be added.
 
+// As the Rust has it; an `Option<bool>` would not say what none stands for.
 /// Whether a path is tried only with an extension; left to itself, it is where an extension is empty.
 #[derive(Clone, Copy, PartialEq, Eq, Debug)]
 pub enum EnforceExtension {

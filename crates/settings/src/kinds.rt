@@ -10,7 +10,7 @@ use crate::limits::{MAX_EXTENSION, MAX_LABEL, MAX_MAIN_FILE, MAX_RESTRICTION, MA
 use crate::refusals::Refusal;
 use texts::is_clean;
 
-// The kind of a line that sets a flag.
+// The kind of a line that sets a flag; it is no `Setting`, since it adds to no table.
 pub(crate) const FLAG: u16 = 31;
 
 /// What a line of the settings adds to a table; a flag adds nothing and has a number of its own.

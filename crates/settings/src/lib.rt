@@ -12,6 +12,7 @@ mod settings;
 
 pub use enforcement::EnforceExtension;
 pub use kinds::{Setting, is_setting_kind};
+pub use limits::{MAX_EXTENSION, MAX_MAIN_FILE, MAX_VALUE};
 pub use refusals::Refusal;
 pub use row::{AliasRow, AliasValue};
 pub use settings::Settings;

@@ -14,10 +14,10 @@ pub(crate) const RESTRICTIONS: usize = 4;
 // The most characters of a label, and bytes of a value, an extension, a main file and a restriction.
 pub(crate) const MAX_LABEL: usize = 32;
 
-pub(crate) const MAX_VALUE: usize = 96;
+pub const MAX_VALUE: usize = 96;
 
-pub(crate) const MAX_EXTENSION: usize = 12;
+pub const MAX_EXTENSION: usize = 12;
 
-pub(crate) const MAX_MAIN_FILE: usize = 16;
+pub const MAX_MAIN_FILE: usize = 16;
 
 pub(crate) const MAX_RESTRICTION: usize = texts::MAX_LEN;

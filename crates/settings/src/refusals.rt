@@ -21,6 +21,7 @@ pub enum Refusal {
 }
 
 impl Refusal {
+    // The discriminant, by a name that a `From` would not give.
     /// The number that an office reads for it.
     pub fn number(self) -> u8
         ensures number_of_the_refusal { result ≡ number self }

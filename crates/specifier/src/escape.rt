@@ -32,7 +32,8 @@ impl<'a> Iterator for Unescaped<'a> {
     }
 }
 
-// Two passes, since `out` has to stay as it was where the text does not fit.
+// Two passes, since `out` has to stay as it was where the text does not fit. By index: of what is written through an adapter of `iter_mut` a proof knows nothing.
+// The caller lends the buffer, by a rule of the project.
 /// Copies `text` without its escapes to the front of `out`, and says how long that is; none, and `out` as it was, if it does not fit.
 pub(crate) fn write_unescaped(text: &[u8], out: &mut [u8]) -> Option<usize>
     ensures length_if_it_fits { result ≡ length_in (Some (unescaped text.now)) (length out.old) }

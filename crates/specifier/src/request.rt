@@ -26,6 +26,7 @@ pub enum SpecifierError {
 }
 
 impl SpecifierError {
+    // The discriminant, by a name that a `From` would not give.
     /// The number that this fault is told by.
     pub fn number(self) -> u8
         ensures number_of_the_fault { result ≡ number self }

@@ -7,6 +7,7 @@ use crate::branch::Branch;
 use paths::normalize_with;
 use texts::{copy_text, trim_final_slashes};
 
+// The caller lends the buffer, by a rule of the project.
 /// Writes the path that a request with this path looks for from `directory` to the front of `out`. None, and `out` as it was, where the request goes to hash or package lookup, or the path is longer than 255 bytes on the way or than `out`.
 pub fn write_sought_path(directory: &[u8], path: &[u8], out: &mut [u8]) -> Option<usize>
     ensures length_of_the_path { result ≡ length_in (sought_path directory.now path.now) (length out.old) }

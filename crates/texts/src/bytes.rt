@@ -36,6 +36,7 @@ pub fn is_text(text: &[u8]) -> bool
     text.len() <= MAX_LEN && is_ascii(text)
 }
 
+// A name for `==`: its clause and its edit say what "the same" is for a text.
 /// Whether two texts have the same bytes.
 pub fn same_bytes(a: &[u8], b: &[u8]) -> bool
     ensures byte_for_byte { result ≡ bytes_eq a.now b.now }
@@ -61,7 +62,7 @@ pub fn ends_in(text: &[u8], byte: u8) -> bool
     }
 }
 
-// Callers lend the memory, by a rule of the project, so a buffer and a length stand side by side in the next two.
+// Callers lend the memory, by a rule of the project, so a buffer and a length stand side by side in the next two; `Text` is for what is held by value.
 /// Copies `text` to the front of `out` and says how long it is; a text that does not fit is refused, and `out` stays as it was.
 pub fn copy_text(text: &[u8], out: &mut [u8]) -> Option<usize>
     ensures length_if_it_fits { result ≡ length_in (Some text.now) (length out.old) }

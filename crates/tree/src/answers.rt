@@ -12,6 +12,9 @@ pub enum Kind {
 #[derive(Clone, Copy, PartialEq, Eq, Debug)]
 pub struct Broken;
 
+/// The longest main text, in bytes.
+pub const MAX_MAIN: usize = 32;
+
 /// A manifest that can be read, by how many main texts it has.
 #[derive(Clone, Copy, PartialEq, Eq, Debug)]
 pub struct Manifest {

@@ -9,7 +9,7 @@ mod policy;
 mod traits;
 
 pub use acceptance::is_acceptable;
-pub use answers::{Broken, Kind, Manifest, Way};
+pub use answers::{Broken, Kind, MAX_MAIN, Manifest, Way};
 pub use endings::{EndingRefusal, Endings};
 pub use part_count::PartCount;
 pub use policy::Policy;

@@ -46,6 +46,7 @@ pub trait Host: FileTree {
         requires sound { Self.FileTree.sound self.now }
         ensures main_text_in_its_place { option_map (λ x. x.now) result ≡ item_at (mains ((Self.FileTree.meaning self.now).manifest (parts path.now))) i };
 
+    // The caller lends the buffer, by a rule of the project.
     /// Looks `request` up from `directory`. A path that is found is written to the front of `out`, and its length is returned; for one that does not fit, there is none and `out` stays as it was.
     fn lookup(
         &mut self,

@@ -7,7 +7,7 @@ ghost use Rattle.explain.specs.Labels.{decided_lines, labels_lines, outcome_word
 
 use crate::shown::Shown;
 use crate::trial::{Outcome, Trial};
-use alias::key_matches;
+use alias::{TooLong, key_matches};
 use settings::AliasRow;
 use std::fmt;
 
@@ -15,7 +15,7 @@ use std::fmt;
 #[derive(Clone, Copy)]
 struct OutcomeWords {
     first: bool,
-    outcome: Outcome,
+    outcome: Result<Outcome, TooLong>,
 }
 
 impl fmt::Display for OutcomeWords {
@@ -23,11 +23,11 @@ impl fmt::Display for OutcomeWords {
 
     fn fmt<W: fmt::Write>(&self, f: &mut fmt::Formatter<W>) -> fmt::Result {
         match &self.outcome {
-            Outcome::Again(text) => {
+            Ok(Outcome::Again(text)) => {
                 f.write_str(if self.first { ": tried is " } else { ", then " })?;
                 write!(f, "{}", Shown(text.as_bytes()))
             }
-            Outcome::Ignored(path) => {
+            Ok(Outcome::Ignored(path)) => {
                 f.write_str(if self.first {
                     ": ignored with 24 is "
                 } else {
@@ -35,8 +35,8 @@ impl fmt::Display for OutcomeWords {
                 })?;
                 write!(f, "{}", Shown(path.as_bytes()))
             }
-            Outcome::Unmatched => write!(f, ", and where none is found it is refused with 23"),
-            Outcome::TooLong => {
+            Ok(Outcome::Unmatched) => write!(f, ", and where none is found it is refused with 23"),
+            Err(TooLong) => {
                 f.write_str(if self.first { ": " } else { ", then " })?;
                 write!(f, "refused with 28, since a text passes 255 bytes")
             }

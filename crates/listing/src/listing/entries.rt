@@ -34,6 +34,7 @@ impl Listing {
         self.lines.push(line).map_err(|_| Refusal::Full)
     }
 
+    // Kind and texts are three parameters, as the public call has them: a struct would be made and taken apart again in each of two calls.
     // Whether such a line may stand behind the others, room aside.
     fn check(&self, kind: LineKind, first: &[u8], second: &[u8]) -> Result<(), Refusal>
         ensures first_check_that_fails { result ≡ taken_unless (unlisted (rows self.now) kind first.now second.now) }

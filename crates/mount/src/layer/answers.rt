@@ -81,6 +81,7 @@ impl<A: Host, B: Host> Host for Mount<A, B> {
         }
     }
 
+    // The caller lends the buffer, by a rule of the project; the second host gets one of the mount's own, since the mount goes in front.
     fn lookup(
         &mut self,
         way: Way,

@@ -37,6 +37,7 @@ impl Settings {
         }
     }
 
+    // Kind and texts are three parameters, as a line has them: a struct would be made and taken apart again in each of two calls.
     // Adds a setting, unless it is refused.
     #[tactic(auto, unfolding(crate::specs::Entries::tables_after))]
     fn add(&mut self, kind: Setting, first: &[u8], second: &[u8]) -> Result<(), Refusal>

@@ -11,6 +11,7 @@ fn slot<T: Copy>(slots: &[T], i: usize) -> T
     slots[i]
 }
 
+// The slots are lent, so no type holds their number: each call that changes a stack says that its capacity stays.
 impl<'a, T: Copy> Stack<'a, T> {
     /// An empty stack with room for as many items as there are slots.
     pub fn new(slots: &'a mut [T]) -> Stack<'a, T>

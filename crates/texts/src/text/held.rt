@@ -20,10 +20,8 @@ impl<const N: usize> Text<N> {
         ensures same_bytes_or_too_many { MatchOption result (N < length bytes.now) (λ t. bytes_of t ≡ bytes.now) }
     {
         let mut text = Text::empty();
-        match text.push_text(bytes) {
-            Ok(()) => Some(text),
-            Err(Full) => None,
-        }
+        text.push_text(bytes).ok()?;
+        Some(text)
     }
 
     /// Adds bytes behind the others; where there is no room for all of them the text stays as it was.

@@ -1,7 +1,8 @@
-use Rattle.std.proofs.Common.{◌≡◌, List, length, Some, None, sym, ap, ◌∙◌, arith, rules}
+use Rattle.std.proofs.Common.{◌≡◌, ◌<◌, List, length, MatchOption, Some, None, Option, subst, sym, ap, ◌∙◌, arith, rules}
 use Rattle.std.specs.Option.{option_map}
 use Rattle.std.specs.Result.{result_ok}
 use Rattle.texts.specs.Held.{bytes_of}
+use Rattle.texts.specs.declared.text.Text.{Text as Held}
 use Rattle.texts.specs.Texts.{Text}
 use Rattle.texts.specs.Parts.{Mark, text_at, texts_of}
 use Rattle.texts.specs.declared.components.Components.{Components}
@@ -12,13 +13,17 @@ use Rattle.texts.proofs.PartLoops.{none_left}
 use Rattle.paths.proofs.Walking.{walk_done, walk_on, walk_stops, walk_too_long}
 use Rattle.paths.proofs.path_util.walked_from.Goals as goal
 
-pub returns-in_default : goal.returns-in_default
-returns-in_default c = record { parts_joined_one_by_one = sym (walk_too_long c.args.start.now (texts_of (left c.args.rest)) c.in_default.ensures.same_bytes_or_too_many) }
+pub returns-in_err-text : goal.returns-in_err-text
+returns-in_err-text c =
+    let none : result_ok c.from_residual.result ≡ None = search rules in record {
+      parts_joined_one_by_one =
+          ap (option_map bytes_of) none ∙ sym (walk_too_long c.args.start.now (texts_of (left c.args.rest)) (subst (λ (t : Option (Held 255)). MatchOption t (255 < length c.args.start.now) (λ u. bytes_of u ≡ c.args.start.now)) c.in_err-text.ensures.ok_part c.new.ensures.same_bytes_or_too_many));
+    }
 
 pub loop-place-init : goal.loop-place-init
 loop-place-init c = (
   ap subject c.into_iter-place-iterator.ensures.into_iter_gives ∙ c.requires.of_the_source,
-  ap (λ (t : Text). walked_within t (texts_of (left c.into_iter-place-iterator.result))) c.in-Some.ensures.same_bytes_or_too_many,
+  ap (λ (t : Text). walked_within t (texts_of (left c.into_iter-place-iterator.result))) (subst (λ (t : Option (Held 255)). MatchOption t (255 < length c.args.start.now) (λ u. bytes_of u ≡ c.args.start.now)) c.in_ok-text.ensures.ok_part c.new.ensures.same_bytes_or_too_many),
 )
 
 pub loop-place-preserved : goal.loop-place-preserved
@@ -26,9 +31,9 @@ loop-place-preserved c =
     let rest = c.loop-place.place-iterator in
     let text = c.loop-place.text in
     let i = c.loop-place.invariant in
-    let given = c.in-Some-place.ensures.steps in
+    let given = c.in-Some.ensures.steps in
     let first : Some c.of.result.now ≡ first_text (left rest) =
-    ap Some (c.of.ensures.part_of_the_text ∙ ap (λ (t : Text). text_at t c.in-Some-place.place) (sym i.0)) ∙ given.part_stands_there in
+    ap Some (c.of.ensures.part_of_the_text ∙ ap (λ (t : Text). text_at t c.in-Some.place) (sym i.0)) ∙ given.part_stands_there in
     let grows = c.in_ok-push_component.ensures.joined_or_too_long in (
       c.next.ensures.steps.same_text ∙ i.0,
       (λ k. walked_within (grows k) (texts_of (c.next.ensures.steps.others_are_left k)))
@@ -41,9 +46,9 @@ returns-in_err-push_component c =
     let rest = c.loop-place.place-iterator in
     let text = c.loop-place.text in
     let i = c.loop-place.invariant in
-    let none : result_ok c.from_residual.result ≡ None = search rules in
+    let none : result_ok c.from_residual-in_err-push_component.result ≡ None = search rules in
     let first : Some c.of.result.now ≡ first_text (left rest) =
-    ap Some (c.of.ensures.part_of_the_text ∙ ap (λ (t : Text). text_at t c.in-Some-place.place) (sym i.0)) ∙ c.in-Some-place.ensures.steps.part_stands_there in
+    ap Some (c.of.ensures.part_of_the_text ∙ ap (λ (t : Text). text_at t c.in-Some.place) (sym i.0)) ∙ c.in-Some.ensures.steps.part_stands_there in
     record {
       parts_joined_one_by_one =
           ap (option_map bytes_of) none
