@@ -53,7 +53,7 @@ fn explain_text(
         trials: trials.as_slice(),
     };
     print!(rt; "{labels}")?;
-    let Some(path) = sought(question.directory, question.request) else {
+    let Some(path) = sought(question) else {
         return Ok(());
     };
     let policy = PartCount { max: MAX_DEPTH };
@@ -94,7 +94,7 @@ fn explain(
         Ok(question) => question,
         Err(refusal) => return refuse(rt, number, Cause::Question(refusal), line),
     };
-    let reading = match Reading::of(question.directory, question.request) {
+    let reading = match Reading::of(question) {
         Ok(reading) => reading,
         Err(refusal) => {
             return refuse(
