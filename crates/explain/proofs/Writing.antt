@@ -1,5 +1,7 @@
 -- A text that is written in turn. Assumes nothing.
-use Rattle.std.proofs.Common.{◌≡◌, ℕ, List, [], ◌++◌, sym}
+use Rattle.std.proofs.Common.{◌≡◌, ℕ, ◌+◌, ◌<◌, List, [], ◌∷◌, ◌++◌, map, length, take, get_or, sym, ap, ◌∙◌}
+use Rattle.std.proofs.lemmas.List.{flat_map_more, map_push, take_more}
+use Rattle.std.specs.List.{flat_map}
 use Rattle.std.proofs.Output.{has_written_append, has_written_of_eq, writes_in_calls_nil}
 use Rattle.std.specs.declared.fmt.Formatter.{Formatter}
 use Rattle.std.specs.Fmt.{HasWritten, IsPlainFormatter}
@@ -17,3 +19,10 @@ module _ {W : Type 0} (took : W → List ℕ → W → Type 0) (start : Formatte
   -- nothing is left
   pub all_written : (now : Formatter W) (left : List ℕ) → left ≡ [] → GoesOn now left → HasWritten took start whole now
   all_written now left none go = go.1 now (has_written_of_eq took _ _ _ _ (sym none) (record { wrote = writes_in_calls_nil took now.writer; plain = go.0 }))
+
+-- what is written of the items so far, and of the one at i
+pub one_more : {X Y : Type 0} (f : X → Y) (words : Y → List ℕ) (xs : List X) (i : ℕ) (x : X) → i < length xs → x ≡ get_or xs i x → flat_map words (map f (take (i + 1) xs)) ≡ flat_map words (map f (take i xs)) ++ words (f x)
+one_more f words xs i x inside is =
+    ap (λ (ys : List _). flat_map words (map f ys)) (take_more xs i x inside ∙ ap (λ (y : _). take i xs ++ y ∷ []) (sym is))
+    ∙ ap (flat_map words) (map_push f (take i xs) x)
+    ∙ sym (flat_map_more words [] (map f (take i xs)) (f x))

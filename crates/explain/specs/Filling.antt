@@ -1,14 +1,16 @@
 -- What the lines in front of the first question leave, one after the other. Assumes nothing.
-use Rattle.std.specs.Prelude.{length, ℕ, zero, suc, ◌+◌, ◌-◌, ◌^◌, min, Bool, cond, List, map, [], ◌∷◌, ◌++◌, is_ok, Some, None, Option}
+use Rattle.std.specs.Prelude.{◌≡◌, length, ℕ, zero, suc, Bool, true, false, cond, ◌||◌, List, map, [], ◌∷◌, ◌++◌, is_ok, Some, None, Option}
 use Rattle.texts.specs.Texts.{Text, empty}
 use Rattle.lines.specs.Sheets.{behind_line, line_of}
 use Rattle.listing.specs.Rows.{Row}
 use Rattle.settings.specs.Tables.{Tables}
 use Rattle.explain.specs.declared.cause.Cause.{Cause}
 use Rattle.explain.specs.declared.front.Filled.{Filled}
+use Rattle.explain.specs.declared.numbered.NumberedLines.{NumberedLines}
 use Rattle.explain.specs.declared.sentence.refused.Refused.{Refused}
 use Rattle.explain.specs.FrontLine.{front_cause, front_rows, front_tables}
 use Rattle.explain.specs.Questions.{question_of}
+use Rattle.explain.specs.SheetLines.{NextLine, left_of, lines_before, next_line}
 
 -- a line that was refused: its number, why, and the line
 pub record Noted : Type 0 where
@@ -27,10 +29,6 @@ pub record Front : Type 0 where
   pub lines : ℕ
   pub refused : List Noted
   pub rest : Text
-
--- the number of the next line; a sheet has fewer than 2 ^ 64
-abbrev pub next_line : ℕ → ℕ
-next_line n = min (n + 1) (2 ^ 64 - 1)
 
 -- a refusal is noted
 abbrev pub noting : Option Cause → ℕ → Text → List Noted
@@ -51,6 +49,16 @@ after_line s line = record {
 abbrev pub asks : Text → Bool
 asks line = is_ok (question_of line)
 
+-- no line is left in front of the questions, and nothing changed
+pub record FrontEnded (s t : NumberedLines) : Type 0 where
+  pub stops : (empty (left_of s) || asks (line_of (left_of s))) ≡ true
+  pub as_before : t ≡ s
+
+-- a line was given that does not ask
+pub record NextInFront (s : NumberedLines) (number : ℕ) (line : Text) (t : NumberedLines) : Type 0 where
+  pub does_not_ask : asks (line_of (left_of s)) ≡ false
+  pub next : NextLine s number line t
+
 -- up to the first question or the end, n lines at most
 abbrev pub filled : ℕ → Front → Front
 filled zero s = s
@@ -62,4 +70,4 @@ filled_by rs t sheet = filled (length sheet) (record { rows = rs; tables = t; li
 
 -- what filling returns, with the listing and the settings that it leaves
 abbrev pub front_of : List Row → Tables → Filled → Front
-front_of rs t f = record { rows = rs; tables = t; lines = f.lines; refused = map noted f.refused.items; rest = f.rest.now }
+front_of rs t f = record { rows = rs; tables = t; lines = lines_before f.lines; refused = map noted f.refused.items; rest = left_of f.lines }

@@ -1,6 +1,6 @@
 -- The lines on the labels that touch a request, and on what they try. Assumes nothing.
 use Rattle.std.specs.Prelude.{ℕ, Bool, true, false, cond, List, [], ◌∷◌, ◌++◌, take, drop, Some, None, Option, Ok, Err, Result, codes}
-use Rattle.std.specs.List.{flat_map}
+use Rattle.std.specs.List.{flat_map, list_any}
 use Rattle.texts.specs.Held.{bytes_of}
 use Rattle.texts.specs.Texts.{Text}
 use Rattle.lines.specs.Sheets.{LINE_END}
@@ -35,8 +35,8 @@ passed_over request a = cond (touches a.label request) (phrase (touching_words r
 
 -- the line that says that no label touches
 abbrev pub untouched_line : Text → List Alias → Text
-untouched_line request [] = phrase (codes "  No label touches " ∷ legible request ∷ (LINE_END ∷ []) ∷ [])
-untouched_line request (a ∷ more) = cond (touches a.label request) [] (untouched_line request more)
+untouched_line request aliases =
+    cond (list_any (λ a. touches a.label request) aliases) [] (phrase (codes "  No label touches " ∷ legible request ∷ (LINE_END ∷ []) ∷ []))
 
 -- the lines on all labels where nothing is tried: those that touch, or that none does
 abbrev pub undecided_lines : List Alias → Text → Text

@@ -8,5 +8,6 @@ pub mod Offers
 pub mod Questions
 pub mod Readings
 pub mod Refusals
+pub mod SheetLines
 pub mod Told
 pub mod Trials

@@ -1,9 +1,10 @@
 // Why a line of a sheet is refused, be it a question, a line of the listing or one of the settings.
-ghost use Rattle.std.specs.Prelude.{◌≡◌};
+ghost use Rattle.std.specs.Prelude.{◌≡◌, Some};
 ghost use Rattle.explain.specs.declared.cause.Cause.TheVariants.{Listing, Question, Setting};
 ghost use Rattle.explain.specs.Causes.{cause_number, cause_words, listing_words, question_words, settings_words};
 
 use crate::refusal::Refusal;
+use std::fmt;
 
 #[derive(Clone, Copy)]
 pub enum Cause {
@@ -81,6 +82,7 @@ impl From<settings::Refusal> for Cause {
 }
 
 impl Cause {
+    // A method and no `Display`, which writes the words: each of the three types has its own number.
     /// The number that stands for it.
     pub fn number(self) -> u8
         ensures number_in_the_list { result ≡ cause_number self }
@@ -91,15 +93,17 @@ impl Cause {
             Cause::Setting(refusal) => refusal.number(),
         }
     }
+}
 
-    /// What is wrong, in words.
-    pub fn reason(self) -> &'static str
-        ensures words_of_the_cause { result.now ≡ cause_words self }
-    {
-        match self {
+// What is wrong, in words.
+impl fmt::Display for Cause {
+    ghost output = { λ c. Some (cause_words c) };
+
+    fn fmt<W: fmt::Write>(&self, f: &mut fmt::Formatter<W>) -> fmt::Result {
+        f.write_str(match *self {
             Cause::Question(refusal) => question_reason(refusal),
             Cause::Listing(refusal) => listing_reason(refusal),
             Cause::Setting(refusal) => settings_reason(refusal),
-        }
+        })
     }
 }

@@ -1,17 +1,18 @@
 // The lines in front of the first question, which fill the listing and the settings.
-ghost use Rattle.std.specs.Prelude.{◌≡◌, ◌++◌, IfOk, OnOk, Option, map};
+ghost use Rattle.std.specs.Prelude.{◌≡◌, ◌++◌, IfOk, MatchOption, OnOk, Option, map};
 ghost use Rattle.lines.specs.Sheets.{content_of, head_of};
 ghost use Rattle.listing.specs.Entries.{rows};
 ghost use Rattle.settings.specs.Meant.{tables};
-ghost use Rattle.explain.specs.Filling.{filled_by, front_of, noted, noting};
+ghost use Rattle.explain.specs.Filling.{FrontEnded, NextInFront, filled_by, front_of, noted, noting};
 ghost use Rattle.explain.specs.FrontLine.{front_cause, front_rows, front_tables, listed_with, listing_cause, sets};
 ghost use Rattle.texts.specs.Taken.{taken_unless};
 
 use crate::cause::Cause;
+use crate::numbered::NumberedLines;
 use crate::question::Question;
 use crate::refusal::Refusal;
 use crate::sentence::Refused;
-use lines::{Head, Line, first_line};
+use lines::{Head, Line};
 use listing::Listing;
 use settings::{Settings, is_setting_kind};
 use std::alloc::{AllocError, Global};
@@ -61,12 +62,25 @@ fn note<'a>(
     Ok(())
 }
 
-/// The lines in front of the first question that were refused, how many lines there were, and what is left of the sheet.
+// No `Peekable`, which would take the question out of the sheet, and hide what is left of it.
+// The next line if it does not ask; a question stays where it is.
+fn next_in_front<'a>(lines: &mut NumberedLines<'a>) -> Option<(u64, &'a [u8])>
+    ensures next_line_or_none_in_front { MatchOption result (FrontEnded lines.old lines.new) (λ x. NextInFront lines.old x.0 x.1.now lines.new) }
+{
+    let mut ahead = *lines;
+    let (number, line) = ahead.next()?;
+    if Question::read(line).is_ok() {
+        return None;
+    }
+    *lines = ahead;
+    Some((number, line))
+}
+
+/// The lines in front of the first question that were refused, and the lines that are left of the sheet.
 #[derive(Drop)]
 pub struct Filled<'a> {
     pub refused: Vec<Refused<'a>>,
-    pub lines: u64,
-    pub rest: &'a [u8],
+    pub lines: NumberedLines<'a>,
 }
 
 /// Fills the listing and the settings from the lines in front of the first question.
@@ -79,21 +93,10 @@ pub fn fill<'a>(
     ensures line_after_line_up_to_the_first_question { IfOk result (λ f. front_of (rows listing.new) (tables settings.new) f ≡ filled_by (rows listing.old) (tables settings.old) sheet.now) }
 {
     let mut refused = Vec::new(alloc);
-    let mut lines = 0u64;
-    let mut rest = sheet;
-    while !rest.is_empty() {
-        let (line, behind) = first_line(rest);
-        if Question::read(line).is_ok() {
-            break;
-        }
-        lines = lines.saturating_add(1);
+    let mut lines = NumberedLines::new(sheet);
+    while let Some((number, line)) = next_in_front(&mut lines) {
         let taken = take(listing, settings, line);
-        note(&mut refused, taken, lines, line)?;
-        rest = behind;
+        note(&mut refused, taken, number, line)?;
     }
-    Ok(Filled {
-        refused,
-        lines,
-        rest,
-    })
+    Ok(Filled { refused, lines })
 }

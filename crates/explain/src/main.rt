@@ -8,6 +8,7 @@ ghost use Rattle.listing.specs.Meanings.{listed};
 mod answer;
 mod cause;
 mod front;
+mod numbered;
 mod offer;
 mod question;
 mod reading;
@@ -21,7 +22,6 @@ use cache::Cache;
 use candidates::is_inward;
 use cause::Cause;
 use front::fill;
-use lines::first_line;
 use listing::Listing;
 use offer::offers;
 use question::Question;
@@ -53,7 +53,7 @@ fn explain_text(
         trials: trials.as_slice(),
     };
     print!(rt; "{labels}")?;
-    let Some(path) = sought(question.directory, question.request) else {
+    let Some(path) = sought(question) else {
         return Ok(());
     };
     let policy = PartCount { max: MAX_DEPTH };
@@ -94,7 +94,7 @@ fn explain(
         Ok(question) => question,
         Err(refusal) => return refuse(rt, number, Cause::Question(refusal), line),
     };
-    let reading = match Reading::of(question.directory, question.request) {
+    let reading = match Reading::of(question) {
         Ok(reading) => reading,
         Err(refusal) => {
             return refuse(
@@ -125,13 +125,9 @@ fn run(rt: &HostRuntime) -> anyhow::Result<()> {
     for refused in &filled.refused {
         println!(rt; "{refused}")?;
     }
-    let (mut number, mut rest) = (filled.lines, filled.rest);
     let mut host = Cache::new(listing);
-    while !rest.is_empty() {
-        let (line, behind) = first_line(rest);
-        number = number.saturating_add(1);
+    for (number, line) in filled.lines {
         explain(rt, &mut host, &settings, number, line)?;
-        rest = behind;
     }
     Ok(())
 }

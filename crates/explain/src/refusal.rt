@@ -20,6 +20,7 @@ pub enum Refusal {
 }
 
 impl Refusal {
+    // A method and no `From`: the number is the discriminant, in one line.
     /// The number that stands for it.
     pub fn number(self) -> u8
         ensures number_in_the_list { result ≡ number_of self }

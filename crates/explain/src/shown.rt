@@ -1,15 +1,9 @@
 // Bytes as a person can read them.
-ghost use Rattle.std.specs.Prelude.{◌≡◌, Some};
-ghost use Rattle.explain.specs.Legible.{legible, legible_byte, prints};
+ghost use Rattle.std.specs.Prelude.{Some};
+ghost use Rattle.explain.specs.Legible.{legible, legible_byte};
 
 use std::fmt;
-
-// Whether a byte prints.
-fn prints(b: u8) -> bool
-    ensures from_32_to_126 { result ≡ prints b }
-{
-    matches!(b, b' '..=b'~')
-}
+use texts::is_printable;
 
 // A byte that prints as it is, any other as `\xNN`.
 #[derive(Clone, Copy)]
@@ -20,7 +14,7 @@ impl fmt::Display for ShownByte {
 
     fn fmt<W: fmt::Write>(&self, f: &mut fmt::Formatter<W>) -> fmt::Result {
         let b = self.0;
-        if prints(b) {
+        if is_printable(&[b]) {
             write!(f, "{}", char::from(b))
         } else {
             write!(f, "\\x{b:02x}")

@@ -1,9 +1,9 @@
 // The lines on the labels that touch a request, and on what they try.
-ghost use Rattle.std.specs.Prelude.{◌≡◌, [], ◌∷◌, Some, map, take, drop};
-ghost use Rattle.std.specs.List.{flat_map};
+ghost use Rattle.std.specs.Prelude.{◌≡◌, Some, map};
+ghost use Rattle.std.specs.List.{flat_map, list_any};
 ghost use Rattle.settings.specs.Rows.{alias_of};
-ghost use Rattle.alias.specs.Left.{label_of};
-ghost use Rattle.explain.specs.Labels.{decided_lines, labels_lines, outcome_words, outcomes_words, passed_over, touching_words, undecided_lines, untouched_line};
+ghost use Rattle.alias.specs.Forms.{touches};
+ghost use Rattle.explain.specs.Labels.{labels_lines, outcome_words, outcomes_words, passed_over, touching_words, undecided_lines};
 
 use crate::shown::Shown;
 use crate::trial::{Outcome, Trial};
@@ -77,6 +77,13 @@ impl fmt::Display for Outcomes<'_> {
     }
 }
 
+// Whether any of these labels touches a request.
+fn any_touches(aliases: &[AliasRow], request: &[u8]) -> bool
+    ensures one_touches_by_its_form { result ≡ list_any (λ a. touches a.label request.now) (map alias_of aliases.now) }
+{
+    aliases.iter().any(|row| key_matches(row.label(), request))
+}
+
 // A label that touches the request.
 #[derive(Clone, Copy)]
 struct Touching<'a> {
@@ -97,123 +104,43 @@ impl fmt::Display for Touching<'_> {
     }
 }
 
-// The line on a label of which nothing is tried, if it touches the request.
+// The lines on the labels that touch a request, where nothing is tried of them.
 #[derive(Clone, Copy)]
 struct PassedOver<'a> {
     request: &'a [u8],
-    row: &'a AliasRow,
+    aliases: &'a [AliasRow],
 }
 
 impl fmt::Display for PassedOver<'_> {
-    ghost output = { λ p. Some (passed_over p.request.now (alias_of p.row.now)) };
-
-    fn fmt<W: fmt::Write>(&self, f: &mut fmt::Formatter<W>) -> fmt::Result {
-        let (request, label) = (self.request, self.row.label());
-        if key_matches(label, request) {
-            writeln!(
-                f,
-                "{}: all its values are passed over",
-                Touching { request, label }
-            )
-        } else {
-            Ok(())
-        }
-    }
-}
-
-// The line that says that no label touches.
-#[derive(Clone, Copy)]
-struct Untouched<'a> {
-    request: &'a [u8],
-    aliases: &'a [AliasRow],
-}
-
-impl fmt::Display for Untouched<'_> {
-    ghost output = { λ u. Some (untouched_line u.request.now (map alias_of u.aliases.now)) };
-
-    fn fmt<W: fmt::Write>(&self, f: &mut fmt::Formatter<W>) -> fmt::Result {
-        for row in self.aliases {
-            if key_matches(row.label(), self.request) {
-                return Ok(());
-            }
-        }
-        writeln!(f, "  No label touches {}", Shown(self.request))
-    }
-}
-
-// The lines on labels of which nothing is tried.
-#[derive(Clone, Copy)]
-struct AllPassedOver<'a> {
-    request: &'a [u8],
-    aliases: &'a [AliasRow],
-}
-
-impl fmt::Display for AllPassedOver<'_> {
     ghost output = { λ p. Some (flat_map (passed_over p.request.now) (map alias_of p.aliases.now)) };
 
     fn fmt<W: fmt::Write>(&self, f: &mut fmt::Formatter<W>) -> fmt::Result {
         let request = self.request;
         for row in self.aliases {
-            write!(f, "{}", PassedOver { request, row })?;
+            let label = row.label();
+            if key_matches(label, request) {
+                let touching = Touching { request, label };
+                writeln!(f, "{touching}: all its values are passed over")?;
+            }
         }
         Ok(())
     }
 }
 
-// The label at a place of the table; empty where there is none.
-fn label_at(aliases: &[AliasRow], place: usize) -> &[u8]
-    ensures label_at_the_place { result.now ≡ label_of (drop place (map alias_of aliases.now)) }
-{
-    match aliases.get(place) {
-        Some(row) => row.label(),
-        None => b"",
-    }
-}
-
-// The rows before a place.
-fn rows_before(aliases: &[AliasRow], place: usize) -> &[AliasRow]
-    ensures rows_before_the_place { map alias_of result.now ≡ take place (map alias_of aliases.now) }
-{
-    &aliases[..place.min(aliases.len())]
-}
-
-// The lines where nothing is tried.
+// The lines where nothing is tried of any label.
 #[derive(Clone, Copy)]
-struct UndecidedLines<'a> {
-    request: &'a [u8],
-    aliases: &'a [AliasRow],
-}
+struct Undecided<'a>(PassedOver<'a>);
 
-impl fmt::Display for UndecidedLines<'_> {
-    ghost output = { λ u. Some (undecided_lines (map alias_of u.aliases.now) u.request.now) };
+impl fmt::Display for Undecided<'_> {
+    ghost output = { λ u. Some (undecided_lines (map alias_of u.0.aliases.now) u.0.request.now) };
 
     fn fmt<W: fmt::Write>(&self, f: &mut fmt::Formatter<W>) -> fmt::Result {
-        let (request, aliases) = (self.request, self.aliases);
-        let passed = AllPassedOver { request, aliases };
-        write!(f, "{passed}{}", Untouched { request, aliases })
-    }
-}
-
-// The lines where something is tried.
-#[derive(Clone, Copy)]
-struct DecidedLines<'a> {
-    before: &'a [AliasRow],
-    request: &'a [u8],
-    label: &'a [u8],
-    trials: &'a [Trial],
-}
-
-impl fmt::Display for DecidedLines<'_> {
-    ghost output = { λ d. Some (decided_lines (map alias_of d.before.now) d.label.now d.request.now d.trials.now) };
-
-    fn fmt<W: fmt::Write>(&self, f: &mut fmt::Formatter<W>) -> fmt::Result {
-        let (request, label) = (self.request, self.label);
-        let passed = AllPassedOver {
-            request,
-            aliases: self.before,
-        };
-        let touching = Touching { request, label };
-        writeln!(f, "{passed}{touching}{}", Outcomes(self.trials))
+        let PassedOver { request, aliases } = self.0;
+        write!(f, "{}", self.0)?;
+        if any_touches(aliases, request) {
+            return Ok(());
+        }
+        writeln!(f, "  No label touches {}", Shown(request))
     }
 }
 
@@ -230,18 +157,17 @@ impl fmt::Display for Labels<'_> {
     ghost output = { λ l. Some (labels_lines (map alias_of l.aliases.now) l.request.now l.decided l.trials.now) };
 
     fn fmt<W: fmt::Write>(&self, f: &mut fmt::Formatter<W>) -> fmt::Result {
-        let (aliases, request) = (self.aliases, self.request);
-        match self.decided {
-            None => write!(f, "{}", UndecidedLines { request, aliases }),
-            Some(place) => {
-                let lines = DecidedLines {
-                    before: rows_before(aliases, place),
-                    request,
-                    label: label_at(aliases, place),
-                    trials: self.trials,
-                };
-                write!(f, "{lines}")
-            }
-        }
+        let (request, aliases) = (self.request, self.aliases);
+        let Some(place) = self.decided else {
+            return write!(f, "{}", Undecided(PassedOver { request, aliases }));
+        };
+        let (before, from) = aliases.split_at(place.min(aliases.len()));
+        let passed = PassedOver {
+            request,
+            aliases: before,
+        };
+        let label = from.first().map_or(b"".as_slice(), |row| row.label());
+        let touching = Touching { request, label };
+        writeln!(f, "{passed}{touching}{}", Outcomes(self.trials))
     }
 }

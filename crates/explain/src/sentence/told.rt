@@ -13,7 +13,7 @@ use crate::reading::Reading;
 use crate::shown::Shown;
 use specifier::Branch;
 use std::fmt;
-use texts::{Place, Text};
+use texts::{MAX_LEN, Place, Text};
 use tree::Kind;
 
 // A query or fragment with its name, or that there is none.
@@ -135,7 +135,7 @@ fn piece_of(place: Option<Place>, request: &[u8]) -> Option<&[u8]>
 }
 
 // The bytes of a text, if there is one.
-fn bytes_in(text: &Option<Text<255>>) -> Option<&[u8]>
+fn bytes_in(text: &Option<Text<MAX_LEN>>) -> Option<&[u8]>
     ensures bytes_of_the_text { option_map (λ t. t.now) result ≡ option_map bytes_of text.now }
 {
     text.as_ref().map(|text| text.as_bytes())

@@ -3,46 +3,47 @@ use Rattle.texts.specs.Texts.{Text}
 use Rattle.lines.specs.Sheets.{line_of}
 use Rattle.listing.specs.Entries.{rows}
 use Rattle.settings.specs.Meant.{tables}
+use Rattle.explain.specs.declared.numbered.NumberedLines.{NumberedLines}
 use Rattle.explain.specs.FrontLine.{front_cause, front_rows, front_tables}
-use Rattle.explain.specs.Filling.{Front, after_line, asks, filled, next_line, noted, noting}
-use Rattle.explain.proofs.FillingSteps.{asked_by, empty_by_length, stops_at_a_question, stops_at_the_end, takes_a_line}
+use Rattle.explain.specs.Filling.{Front, after_line, filled, noted, noting}
+use Rattle.explain.specs.SheetLines.{left_of, lines_before, next_line}
+use Rattle.explain.proofs.FillingSteps.{stops_here, takes_a_line}
 use Rattle.explain.proofs.front.fill.Goals as goal
-use Rattle.explain.proofs.front.fill.Goals.{else-loop-line-test, then-loop-line-test+then-is_ok}
 
-pub loop-line-preserved : goal.loop-line-preserved
-loop-line-preserved c =
-    let rs = rows c.loop-line.listing in
-    let t = tables c.loop-line.settings in
-    let rest = c.loop-line.rest.now in
-    let s : Front = record { rows = rs; tables = t; lines = c.loop-line.lines; refused = map noted c.loop-line.refused.items; rest = rest } in
-    let inv = c.loop-line.invariant in
-    let line = c.first_line.ensures.up_to_the_line_end in
-    let more = sym (empty_by_length rest) ∙ sym c.is_empty.ensures ∙ c.loop-line-test.true in
-    let silent = ap asks (sym line) ∙ asked_by c.read.result _ c.read.ensures.question_in_the_line (sym c.is_ok.ensures.value ∙ c.if-is_ok.false) in
-    let next = takes_a_line inv.0 s more silent inv.1 in
-    let behind = c.first_line.ensures.rest_behind_the_line_end in
+pub loop-number-preserved : goal.loop-number-preserved
+loop-number-preserved c =
+    let rs = rows c.loop-number.listing in
+    let t = tables c.loop-number.settings in
+    let lines = c.loop-number.lines in
+    let s : Front = record { rows = rs; tables = t; lines = lines_before lines; refused = map noted c.loop-number.refused.items; rest = left_of lines } in
+    let inv = c.loop-number.invariant in
+    let front = c.in-Some.ensures.next_line_or_none_in_front in
+    let given = front.next in
+    let step = takes_a_line inv.0 s given.more_was_left front.does_not_ask inv.1 in
     let said =
-    c.in_ok-note.ensures.noted_behind_the_others (front_cause rs t c.first_line.result.0.now) c.take-taken.ensures.taken_or_refused
-    ∙ ap (λ (n : ℕ). s.refused ++ noting (front_cause rs t c.first_line.result.0.now) n c.first_line.result.0.now) c.saturating_add-lines.ensures
-    ∙ ap (λ (l : Text). s.refused ++ noting (front_cause rs t l) (next_line s.lines) l) line in
-    let then : ◌≡◌ {A = Front} (record { rows = rows c.take-taken.new.listing; tables = tables c.take-taken.new.settings; lines = c.saturating_add-lines.result; refused = map noted c.note.new.refused.items; rest = c.first_line.result.1.now }) (after_line s (line_of rest)) =
+    c.in_ok-note.ensures.noted_behind_the_others (front_cause rs t c.in-Some.line.now) c.take-taken.ensures.taken_or_refused
+    ∙ ap (λ (n : ℕ). s.refused ++ noting (front_cause rs t c.in-Some.line.now) n c.in-Some.line.now) given.next_number
+    ∙ ap (λ (l : Text). s.refused ++ noting (front_cause rs t l) (next_line s.lines) l) given.up_to_the_line_end in
+    let then : ◌≡◌ {A = Front} (record { rows = rows c.take-taken.new.listing; tables = tables c.take-taken.new.settings; lines = lines_before c.next_in_front.new.lines; refused = map noted c.note.new.refused.items; rest = left_of c.next_in_front.new.lines }) (after_line s (line_of s.rest)) =
     λ i. record {
-      rows = (c.take-taken.ensures.rows_then ∙ ap (front_rows rs) line) i;
-      tables = (c.take-taken.ensures.tables_then ∙ ap (front_tables t) line) i;
-      lines = c.saturating_add-lines.ensures i;
+      rows = (c.take-taken.ensures.rows_then ∙ ap (front_rows rs) given.up_to_the_line_end) i;
+      tables = (c.take-taken.ensures.tables_then ∙ ap (front_tables t) given.up_to_the_line_end) i;
+      lines = (given.line_is_counted ∙ given.next_number) i;
       refused = said i;
-      rest = behind i;
+      rest = given.rest_is_left i;
     } in
-    (next.0, omega (arith, next.1, ap length behind), ap (filled next.0) then ∙ sym next.2 ∙ inv.2)
+    (step.0, omega (arith, step.1, ap length given.rest_is_left), ap (filled step.0) then ∙ sym step.2 ∙ inv.2)
 
 pub returns : goal.returns
 returns c =
-    let rest = c.loop-line.rest.now in
-    let inv = c.loop-line.invariant in
+    let rs = rows c.loop-number.listing in
+    let t = tables c.loop-number.settings in
+    let refused = map noted c.loop-number.refused.items in
+    let inv = c.loop-number.invariant in
+    let ended = c.in_default.ensures.next_line_or_none_in_front in
     record {
       line_after_line_up_to_the_first_question =
-          elim c.loop-line-test.branch [
-            | else-loop-line-test w ↦ sym (stops_at_the_end inv.0 _ (sym (empty_by_length rest) ∙ sym c.is_empty.ensures ∙ w.loop-line-test.false)) ∙ inv.2
-            | then-loop-line-test+then-is_ok w ↦ sym (stops_at_a_question inv.0 _ (ap asks (sym w.first_line.ensures.up_to_the_line_end) ∙ asked_by w.read.result _ w.read.ensures.question_in_the_line (sym w.is_ok.ensures.value ∙ w.if-is_ok.true))) ∙ inv.2
-          ];
+          ap (λ (l : NumberedLines). record { rows = rs; tables = t; lines = lines_before l; refused = refused; rest = left_of l }) ended.as_before
+          ∙ sym (stops_here inv.0 _ ended.stops)
+          ∙ inv.2;
     }

@@ -8,7 +8,7 @@ use Rattle.explain.proofs.reading.sought.Goals as goal
 
 pub returns : goal.returns
 returns c =
-    let made = sought_path c.args.directory.now c.args.path.now in
+    let made = sought_path c.args.question.directory.now c.args.question.request.now in
     let out = taken_out made (replicate 255 0) c.write_sought_path.new.out c.in_ok-len.len c.in_ok-len.ensures.length_of_the_path c.write_sought_path.ensures.path_in_front in
     record {
       sought_path_if_short =

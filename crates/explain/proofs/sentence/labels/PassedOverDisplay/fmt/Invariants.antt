@@ -3,7 +3,7 @@ use Rattle.std.specs.Fmt.{HasWritten, IsPlainFormatter}
 use Rattle.std.specs.List.{flat_map}
 use Rattle.settings.specs.Rows.{alias_of}
 use Rattle.explain.specs.Labels.{passed_over}
-use Rattle.explain.proofs.sentence.labels.AllPassedOverDisplay.fmt.Given as goal
+use Rattle.explain.proofs.sentence.labels.PassedOverDisplay.fmt.Given as goal
 
 -- The lines so far are written.
 abbrev pub invariant-loop-row : goal.invariant-loop-row
