@@ -40,7 +40,8 @@ pub struct Progress {
     done: bool,
 }
 
-// A request from a directory, inside this crate: the calls take the two apart, as the Rust does.
+// Private, beside the pair that `explain` reads off a line: in public, each caller would make a struct of the two for one call.
+// A request from a directory.
 #[derive(Clone, Copy)]
 struct Import<'a> {
     directory: &'a [u8],
@@ -116,7 +117,7 @@ impl<'a> Import<'a> {
     {
         let label = row.label();
         let values = row.values();
-        // The project goes through labels and their values by an index.
+        // Labels and their values are gone through by their index, by a rule of the project.
         for i in from..values.len() {
             if let Some(attempt) = self.try_value(tree, label, &values[i]) {
                 return Some((i, attempt));
@@ -233,6 +234,7 @@ impl Progress {
         self.try_values(tree, row, import)
     }
 
+    // The caller lends the work text, by a rule of the project.
     /// The next attempt for a request from a directory: none is left, another request, or an end. A text that is made is written to the front of `work`, which holds any text if it has 255 bytes.
     #[tactic(auto, using(crate::proofs::Attempting::untouched))]
     pub fn next<T: FileTree>(
@@ -258,7 +260,7 @@ impl Progress {
             return None;
         }
         let import = Import { directory, request };
-        // The project goes through labels and their values by an index.
+        // Labels and their values are gone through by their index, by a rule of the project.
         for i in self.label..aliases.len() {
             self.go_to(i);
             if let Some(attempt) = self.try_label(tree, &aliases[i], import) {

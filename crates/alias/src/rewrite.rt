@@ -19,6 +19,7 @@ use stack::Full;
 use texts::{MAX_LEN, Place, Text, copy_text};
 use tree::{FileTree, Kind};
 
+// Stands for the Rust's `Cow`, by a rule of the project: a part of one of two slices is handed out.
 /// A new request: the value as it was written, or a text that was made; an answer gives that as so many bytes at the front of the work text.
 #[derive(Clone, Copy, PartialEq, Eq, Debug)]
 pub enum NewRequest<T = usize> {
@@ -171,7 +172,7 @@ fn rewrite_by_form<T: FileTree>(
     }
 }
 
-// Tree, label, value and request are four parameters, as the Rust has them; each call says what it asked of its own ones.
+// Four parameters, and no struct of them: each call takes one apart and hands the others on, and says what it asked of its own ones.
 // What a value of a label makes of a request that the label touches; none if the value is passed over.
 #[tactic(auto, unfolding(crate::specs::Rewrites::rewritten))]
 pub(crate) fn rewrite_value<T: FileTree>(
@@ -192,6 +193,7 @@ pub(crate) fn rewrite_value<T: FileTree>(
     rewrite_by_form(tree, AliasMatchKind::of(label), value, request)
 }
 
+// The caller lends the work text, by a rule of the project.
 /// What a value of a label makes of a request that the label touches; none if the value is passed over. A text that is made is written to the front of `work`.
 #[tactic(auto, using(crate::proofs::Rewriting::lies_below))]
 pub fn load_alias_value<T: FileTree>(

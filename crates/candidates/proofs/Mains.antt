@@ -10,9 +10,11 @@ use Rattle.texts.specs.Parts.{parts}
 use Rattle.tree.specs.Meanings.{Meaning, mains}
 use Rattle.candidates.specs.declared.places.Form.{Form}
 use Rattle.candidates.specs.declared.places.Form.TheVariants.{File, Index}
+use Rattle.candidates.specs.declared.walk.Stage.{Stage}
 use Rattle.candidates.specs.declared.walk.Stage.TheVariants.{Path, Main}
+use Rattle.candidates.specs.declared.walk.Walk.{Walk}
 use Rattle.candidates.specs.Candidates.{Candidate, directory_candidates, files, indexes, main_candidates, main_text, overlong}
-use Rattle.candidates.specs.Left.{behind_main, behind_path, form_candidates, main_index_left, main_left, rank, stage_left}
+use Rattle.candidates.specs.Left.{behind_main, behind_path, form_candidates, left, main_index_left, main_left, rank, stage_left}
 use Rattle.candidates.proofs.Placing.{dropped_none, dropped_some}
 
 -- what holds of each item holds of the one at a place
@@ -50,6 +52,10 @@ module _ (t : Tables) (fully : Bool) (p : Text) (m : Meaning) where
   pub path_done : (f : Form) (i : ℕ) → None ≡ item_at (form_candidates t fully f p) i → stage_left t fully p m (Path f) i ≡ stage_left t fully p m (behind_path f) 0
   path_done File i e = ap (λ (xs : List Candidate). xs ++ directory_candidates t fully m p) (dropped_none (files t fully p) i e)
   path_done Index i e = dropped_none (indexes t fully p) i e
+
+  -- a walk at the first place of a stage has all of the stage left
+  pub at_first : (w : Walk) (h : Stage) → w ≡ record { stage = h; place = 0 } → stage_left t fully p m h 0 ≡ left t fully p m w
+  at_first w h e = sym (ap (λ (v : Walk). left t fully p m v) e)
 
   abbrev ms : List Text
   ms = mains (m.manifest (parts p))

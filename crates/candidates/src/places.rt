@@ -31,7 +31,7 @@ pub(crate) struct Sought<'a> {
     pub(crate) path: &'a [u8],
 }
 
-// A path with a name behind it and the extension at a place; none beyond the last. Extensions are gone through by their index, in the order written.
+// A path with a name behind it and the extension at a place; none beyond the last. Extensions are gone through by their index, in the order written, by a rule of the project.
 fn extended_candidate(
     path: &[u8],
     name: &[u8],
@@ -59,7 +59,7 @@ fn slash_before(name: &Text<MAX_MAIN_FILE>) -> Text<MAX_NAME>
     text
 }
 
-// Each main file below a path with all extensions in turn: the candidate at a place; none beyond the last. Main files are gone through by their index, in the order written.
+// Each main file below a path with all extensions in turn: the candidate at a place; none beyond the last. Main files are gone through by their index, in the order written, by a rule of the project.
 fn named_candidate(
     path: &[u8],
     names: &[Text<MAX_MAIN_FILE>],

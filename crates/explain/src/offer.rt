@@ -69,10 +69,9 @@ fn judge<T: FileTree, P: Policy>(
     policy: &P,
     restrictions: &[Text<MAX_LEN>],
     candidate: Result<usize, Fault>,
-    out: &[u8],
+    out: &[u8; MAX_LEN],
 ) -> Result<Offer, Fault>
     requires sound { T.FileTree.sound tree.old }
-    requires room_for_one_text { length out.now ≡ 255 }
     ensures judged_by_definition { (path : Bytes) → shown path result ≡ judged (T.FileTree.meaning tree.old) (P.Policy.allowed policy.now) (map bytes_of restrictions.now) (said path out.now candidate) }
     ensures same_meaning { T.FileTree.meaning tree.new ≡ T.FileTree.meaning tree.old }
     ensures still_sound { T.FileTree.sound tree.new }

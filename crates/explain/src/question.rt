@@ -6,9 +6,11 @@ ghost use Rattle.explain.specs.Questions.{asked, blamed, question_of};
 use crate::refusal::Refusal;
 use lines::Line;
 
+// A number, since a sheet may write any.
 /// The kind of the line that asks.
 const ASKS: u16 = 40;
 
+// Beside the pair of `alias`: this one is read off a line and blamed, by calls that a type of another crate cannot have.
 #[derive(Clone, Copy)]
 pub struct Question<'a> {
     pub directory: &'a [u8],

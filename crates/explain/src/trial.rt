@@ -43,9 +43,8 @@ impl Trial {
         progress: &Progress,
         aliases: &[AliasRow],
         attempt: Result<Attempt, TooLong>,
-        work: &[u8],
+        work: &[u8; MAX_LEN],
     ) -> Trial
-        requires room_for_one_text { length work.now ≡ 255 }
         ensures says_the_same { (request : Bytes) → tried (map alias_of aliases.now) request result ≡ said (map alias_of aliases.now) progress.now request work.now attempt }
     {
         let outcome = attempt.map(|attempt| match attempt {
@@ -88,6 +87,7 @@ pub fn trials<T: FileTree>(
     Ok(found)
 }
 
+// The work text is lent to the labels, by a rule of the project.
 // Whether something is tried of one of these labels.
 fn makes_an_attempt<T: FileTree>(tree: &mut T, aliases: &[AliasRow], question: Question) -> bool
     requires sound { T.FileTree.sound tree.old }

@@ -15,6 +15,9 @@ use columns::write_columns;
 pub use columns::{read_column, write_column};
 pub use split::first_line;
 
+/// How long the head of a line is: three columns, with a blank behind each.
+pub const HEAD_LEN: usize = 12;
+
 /// Why a sheet is refused.
 #[derive(Clone, Copy, PartialEq, Eq, Debug)]
 pub enum Refusal {
@@ -55,7 +58,7 @@ fn has_blanks(line: &[u8]) -> bool
     ensures blanks_behind_the_columns { result ≡ has_blanks line.now }
     ensures at_least_12_bytes_if_true { result ≡ true → 12 ≤ length line.now }
 {
-    line.len() >= 12 && line[3] == b' ' && line[7] == b' ' && line[11] == b' '
+    line.len() >= HEAD_LEN && line[3] == b' ' && line[7] == b' ' && line[11] == b' '
 }
 
 impl Head {
@@ -79,7 +82,7 @@ impl Head {
     }
 
     /// The three columns, with a blank behind each.
-    pub fn write(self) -> Option<[u8; 12]>
+    pub fn write(self) -> Option<[u8; HEAD_LEN]>
         ensures writes_the_head { result ≡ written (head_numbers self) }
         ensures reads_back { MatchOption result (have_room (head_numbers self) ≡ false) (λ bytes. head_of bytes ≡ Some self) }
     {
@@ -87,6 +90,7 @@ impl Head {
     }
 }
 
+// The kind stays a number, as in a head.
 /// A line: its kind and its two texts.
 #[derive(Clone, Copy, Debug)]
 pub struct Line<'a> {
@@ -104,13 +108,13 @@ impl<'a> Line<'a> {
         ensures refuses_with_15 { IfErr result (λ e. number_of e ≡ 15) }
     {
         let head = Head::read(line)?;
-        let middle = 12 + head.first as usize;
+        let middle = HEAD_LEN + head.first as usize;
         if line.len() != middle + head.second as usize {
             return Err(Refusal::BadLine);
         }
         Ok(Line {
             kind: head.kind,
-            first: &line[12..middle],
+            first: &line[HEAD_LEN..middle],
             second: &line[middle..],
         })
     }

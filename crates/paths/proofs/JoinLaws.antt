@@ -1,5 +1,5 @@
 -- The laws of joining and normalizing. Assumes nothing.
-use Rattle.std.proofs.Common.{◌≡◌, ℕ, zero, suc, ◌+◌, ◌-◌, ◌<◌, ◌≤◌, Bool, true, false, cond, not, ◌&&◌, ◌||◌, leb, ◌⊎◌, List, [], ◌∷◌, ◌++◌, length, take, Some, None, sym, refl, ap, ◌∙◌, inl, inr, ⊎_elim, arith}
+use Rattle.std.proofs.Common.{◌≡◌, ℕ, zero, suc, ◌+◌, ◌-◌, ◌<◌, ◌≤◌, Bool, true, false, cond, not, ◌&&◌, ◌||◌, leb, ◌⊎◌, List, [], ◌∷◌, ◌++◌, length, take, Some, sym, refl, ap, ◌∙◌, inl, inr, ⊎_elim, arith}
 use Rattle.std.specs.List.{AllByRecursion}
 use Rattle.std.specs.Str.{bytes_eq}
 use Rattle.std.proofs.ByRecursion.{All-append}
@@ -8,11 +8,10 @@ use Rattle.std.proofs.lemmas.List.{append_assoc, append-nil, length-append, leng
 use Rattle.std.proofs.lemmas.Bool.{and_from, and_parts, and_right, cases_Bool, cond-true, cond-false, cond_both, eqb-true, false≢true, le-leb, leb-true, not-false, not_from_false, not_from_true, not-true, or_parts, true≢false}
 use Rattle.paths.specs.declared.path_util.Component.{Component}
 use Rattle.paths.specs.declared.path_util.Component.TheVariants.{CurDir, ParentDir, Normal}
-use Rattle.texts.specs.Texts.{Text, SLASH, DOT, empty, begins, ends, fits, length_in}
+use Rattle.texts.specs.Texts.{Text, SLASH, DOT, empty, begins, ends, fits}
 use Rattle.texts.specs.Parts.{Mark, root, here, above, pieces, solid, placed, inner, headed, marks, texts_of, parts, clean, slash_between}
-use Rattle.paths.specs.Joins.{component, cut_length, cut, separator, slashed, grown, grown_by, walked, peak, replaces, join, joined, joins, normal, normalize, normalized, relative, climbs, walked_within}
+use Rattle.paths.specs.Joins.{component, cut_length, cut, separator, slashed, grown, grown_by, walked, peak, replaces, join, joins, normal, normalize, normalized, relative, climbs, walked_within}
 use Rattle.texts.specs.Walks.{but_first}
-use Rattle.texts.proofs.Buffers.{went_out}
 use Rattle.texts.proofs.CleanPaths.{clean_names, clean_spelled, parts_spelled}
 use Rattle.texts.proofs.Names.{Free, Name, free_first, pieces_back, pieces_each_free, spelled}
 use Rattle.texts.proofs.Weights.{weight, inner_weight, pieces_weight}
@@ -452,11 +451,3 @@ join_fits a b h = at (replaces (parts b)) h
     at : (v : Bool) → cond v (fits b) (leb (peak a (parts b)) 255) ≡ true → length (cond v b (walked a (parts b))) ≤ 255
     at true e = leb-true (length b) 255 e
     at false e = omega (arith, walked_low a (parts b), leb-true (peak a (parts b)) 255 e)
-
--- with room for 255 bytes, what is not joined cannot be joined
-pub not_joined : (a b : Text) (n : ℕ) → None ≡ length_in (joined a b) n → 255 ≤ n → joins a b ≡ false
-not_joined a b n e h = at (joins a b) refl e
-  where
-    at : (v : Bool) → joins a b ≡ v → None ≡ length_in (cond v (Some (join a b)) None) n → joins a b ≡ false
-    at true j f = absurd (omega (arith, join_fits a b j, went_out (join a b) n f))
-    at false j f = j

@@ -11,7 +11,7 @@ ghost use Rattle.texts.specs.Walks.{left, subject};
 ghost use Rattle.paths.specs.Joins.{component, cut_length, grown, joined as joined_of, normalize as normalize_of, normalized as normalized_of, relative, root_length, separator, slashed, walked_within};
 
 use stack::{Full, Stack};
-use texts::{Components, MAX_LEN, Place, Text, copy_text, ends_in, push_parts, same_bytes};
+use texts::{Components, MAX_LEN, Place, Text, copy_text, ends_in, push_parts};
 
 /// The most parts that a text of 255 bytes can have.
 pub const MAX_PARTS: usize = 128;
@@ -28,12 +28,10 @@ impl Component {
     fn of(part: &[u8]) -> Component
         ensures component_by_its_dots { result ≡ component part.now }
     {
-        if same_bytes(part, b".") {
-            Component::CurDir
-        } else if same_bytes(part, b"..") {
-            Component::ParentDir
-        } else {
-            Component::Normal
+        match part {
+            [b'.'] => Component::CurDir,
+            [b'.', b'.'] => Component::ParentDir,
+            _ => Component::Normal,
         }
     }
 }

@@ -6,10 +6,7 @@ ghost use Rattle.settings.specs.Loading.{known, offer_of, offered};
 use crate::flag::Flag;
 use crate::kinds::{FLAG, Setting};
 use crate::refusals::Refusal;
-use lines::{Head, Line};
-
-// How long a line is that sets a flag: it has no texts.
-const FLAG_LEN: usize = 12;
+use lines::{HEAD_LEN, Head, Line};
 
 /// What a line says of the settings: a setting with its two texts, or a flag with its setting.
 #[derive(Clone, Copy)]
@@ -26,7 +23,8 @@ impl<'a> Entry<'a> {
     {
         let head = Head::read(line)?;
         if head.kind == FLAG {
-            if line.len() != FLAG_LEN {
+            // a line that sets a flag has no texts
+            if line.len() != HEAD_LEN {
                 return Err(Refusal::Kind);
             }
             let flag = Flag::try_from((head.first, head.second))?;

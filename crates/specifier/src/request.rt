@@ -11,6 +11,7 @@ use texts::{Place, position};
 
 const QUERY_MARK: u8 = b'?';
 
+// Places, by a rule of the project: an absent query or fragment is `None`, a present one `Some` place.
 /// Where the pieces of a request stand in it: the path as it is written, the query from its `?` on and the fragment from its `#` on.
 #[derive(Clone, Copy, PartialEq, Eq, Debug)]
 pub struct Specifier {

@@ -36,7 +36,7 @@ pub fn is_text(text: &[u8]) -> bool
     text.len() <= MAX_LEN && is_ascii(text)
 }
 
-// A name for `==`: its clause and its edit say what "the same" is for a text.
+// A name for `==`, where paths are compared part by part: its clause and its edit say what "the same" is.
 /// Whether two texts have the same bytes.
 pub fn same_bytes(a: &[u8], b: &[u8]) -> bool
     ensures byte_for_byte { result ≡ bytes_eq a.now b.now }

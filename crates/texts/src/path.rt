@@ -34,7 +34,7 @@ pub fn is_clean(text: &[u8]) -> bool
     same_bytes(text, b"/") || is_rooted(text)
 }
 
-// A `zip` would not see which of the two has parts left.
+// By hand: a `zip` would not see which of the two has parts left, and of `Iterator::eq` over two maps the proof did not close.
 /// Whether two texts are the same path: their parts are the same.
 pub fn same_path(a: &[u8], b: &[u8]) -> bool
     ensures part_for_part { result ≡ same_parts (parts a.now) (parts b.now) }

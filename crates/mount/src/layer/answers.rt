@@ -8,7 +8,7 @@ ghost use Rattle.mount.specs.Mounts.{Routed, in_front, mountable, mounted};
 ghost use Rattle.mount.specs.Placed.{mounted_proper};
 
 use crate::layer::{MAX_AT, Mount};
-use texts::{MAX_LEN, Text, copy_text, is_clean};
+use texts::{MAX_LEN, Text, append_text, copy_text, is_clean};
 use tree::{Broken, FileTree, Host, Kind, Manifest, Way};
 
 // The shortest path that a host can be mounted at, in bytes.
@@ -22,15 +22,18 @@ fn is_mountable(at: &[u8]) -> bool
     is_clean(at) && (MIN_AT..=MAX_AT).contains(&at.len())
 }
 
+// The caller lends the buffer, by a rule of the project.
 // The path that was found with the mount in front of it, at the front of `out`; past 255 bytes there is none.
 fn put_in_front(at: &[u8], path: &[u8], out: &mut [u8]) -> Option<usize>
     ensures found_if_the_whole_path_fits { Ok result ≡ answered (in_front at.now (found path.now)) (length out.old) }
     ensures path_in_front { out.new ≡ buffer_with (path_found (in_front at.now (found path.now))) out.old }
 {
-    let mut whole: Text<MAX_LEN> = Text::empty();
-    whole.push_text(at).ok()?;
-    whole.push_text(path).ok()?;
-    copy_text(whole.as_bytes(), out)
+    let whole = at.len() + path.len();
+    if whole > MAX_LEN || whole > out.len() {
+        return None;
+    }
+    let len = copy_text(at, out)?;
+    append_text(out, len, path)
 }
 
 impl<A: FileTree, B: FileTree> Mount<A, B> {

@@ -13,6 +13,7 @@ use crate::settings::Settings;
 use stack::ArrayVec;
 use texts::Text;
 
+// The room is tested with the other checks, in their order, so these calls ask for it: a push that refuses would be one more answer to each table.
 // A text behind the others of its table.
 pub(crate) fn push_text<const L: usize, const N: usize>(
     table: &mut ArrayVec<Text<L>, N>,

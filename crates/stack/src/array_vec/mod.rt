@@ -17,7 +17,7 @@ pub struct ArrayVec<T, const N: usize> {
 
 impl<T: Copy, const N: usize> Copy for ArrayVec<T, N> {}
 
-// By hand: a derive does not serve a type with a ghost field and a parameter.
+// By hand: `Clone` cannot be derived for a struct with a ghost field.
 impl<T: Copy, const N: usize> Clone for ArrayVec<T, N> {
     ghost is_clone = { λ v w. w ≡ v };
 

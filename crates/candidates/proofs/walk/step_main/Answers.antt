@@ -8,8 +8,8 @@ use Rattle.settings.specs.Meant.{tables}
 use Rattle.candidates.specs.declared.walk.Stage.{Stage}
 use Rattle.candidates.specs.declared.walk.Walk.{Walk}
 use Rattle.candidates.specs.Candidates.{Candidate, overlong}
-use Rattle.candidates.specs.Left.{form_candidates, left, rank, stage_left}
-use Rattle.candidates.proofs.Mains.{each_at, item_within, main_done, main_gone, main_long, main_nearer, main_next}
+use Rattle.candidates.specs.Left.{form_candidates, rank, stage_left}
+use Rattle.candidates.proofs.Mains.{at_first, each_at, item_within, main_done, main_gone, main_long, main_nearer, main_next}
 use Rattle.candidates.proofs.walk.step_main.Goals as goal
 
 pub returns-in_default-clause-next_or_moved : goal.returns-in_default-clause-next_or_moved
@@ -18,7 +18,7 @@ returns-in_default-clause-next_or_moved g c =
     let t = tables s.settings.now in
     let m = g.H.FileTree.meaning c.args.host.now in
     main_gone t s.fully_specified s.path.now m c.args.main c.in_default.ensures.main_text_in_its_place c.args.form c.args.place
-    ∙ sym (ap (λ (w : Walk). left t s.fully_specified s.path.now m w) c.begin.ensures.first_place_of_the_stage)
+    ∙ at_first t s.fully_specified s.path.now m _ _ c.begin.ensures.first_place_of_the_stage
 
 pub join_main-requires : goal.join_main-requires
 join_main-requires g c =
@@ -32,7 +32,7 @@ returns-in_default-join_main-clause-next_or_moved g c =
     let t = tables s.settings.now in
     let m = g.H.FileTree.meaning c.args.host.now in
     main_long t s.fully_specified s.path.now m c.args.main c.in-Some.text.now c.in-Some.ensures.main_text_in_its_place c.in_default-join_main.ensures.joined_to_the_path c.args.form c.args.place
-    ∙ ap (λ (cs : List Candidate). overlong ∷ cs) (sym (ap (λ (w : Walk). left t s.fully_specified s.path.now m w) c.begin-in_default-join_main.ensures.first_place_of_the_stage))
+    ∙ ap (λ (cs : List Candidate). overlong ∷ cs) (at_first t s.fully_specified s.path.now m _ _ c.begin-in_default-join_main.ensures.first_place_of_the_stage)
 
 pub behind_main-requires : goal.behind_main-requires
 behind_main-requires g c =
@@ -58,7 +58,7 @@ returns-in-None-clause-next_or_moved g c =
     (bytes_of c.in-Some-join_main.joined) c.in-Some-join_main.ensures.joined_to_the_path c.args.form c.args.place
     (c.in-None.ensures.candidate_at_the_place s.path.now ∙ ap (λ (q : Text). item_at (form_candidates t s.fully_specified c.args.form q) c.args.place) c.as_bytes.ensures.bytes_of_the_text)
     ∙ ap (λ (h : Stage). stage_left t s.fully_specified s.path.now m h 0) (sym c.behind_main.ensures.main_files_or_the_next_main_text)
-    ∙ sym (ap (λ (w : Walk). left t s.fully_specified s.path.now m w) c.begin-in-None.ensures.first_place_of_the_stage)
+    ∙ at_first t s.fully_specified s.path.now m _ _ c.begin-in-None.ensures.first_place_of_the_stage
 
 pub returns-in-None-clause-nearer_to_the_end : goal.returns-in-None-clause-nearer_to_the_end
 returns-in-None-clause-nearer_to_the_end g c =
