@@ -1,4 +1,5 @@
 pub mod Ending
 pub mod Keeping
 pub mod Nesting
+pub mod Obeying
 pub mod Quiet

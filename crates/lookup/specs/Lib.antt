@@ -2,4 +2,6 @@ pub mod Faults
 pub mod Laws
 pub mod Lookups
 pub mod Outcomes
+pub mod RuleLaws
+pub mod Rules
 pub mod Samples

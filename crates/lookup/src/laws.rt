@@ -9,6 +9,12 @@ ghost use Rattle.lookup.specs.Laws.{
   PlainLabelCoversOnlyWhatContinuesIt,
 };
 ghost use Rattle.lookup.specs.Outcomes.{rounds_at_most};
+ghost use Rattle.lookup.specs.RuleLaws.{
+  DefinitionObeysTheRules,
+  LookupsEndByTheRules,
+  RulesGiveOneAnswer,
+  RulesHoldOfThatEndAlone,
+};
 
 /// How many rounds a lookup runs at most, with what holds of lookups of at most so many rounds.
 pub fn rounds_of_lawful_lookups() -> usize
@@ -19,6 +25,10 @@ pub fn rounds_of_lawful_lookups() -> usize
     ensures nesting_of_rounds_never_shows { NestingNeverShows }
     ensures first_acceptable_candidate_is_handed_out { FirstAcceptableCandidateIsHandedOut }
     ensures plain_label_covers_only_what_continues_it { PlainLabelCoversOnlyWhatContinuesIt }
+    ensures definition_obeys_the_rules { DefinitionObeysTheRules }
+    ensures rules_give_one_answer { RulesGiveOneAnswer }
+    ensures rules_hold_of_that_end_alone { RulesHoldOfThatEndAlone }
+    ensures lookups_end_by_the_rules { LookupsEndByTheRules }
 {
     64
 }

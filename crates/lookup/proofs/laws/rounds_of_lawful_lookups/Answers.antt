@@ -21,6 +21,7 @@ use Rattle.lookup.specs.Outcomes.{fresh, handed_out, lookup, outcome_of, refusal
 use Rattle.lookup.proofs.Ending.{require_decides}
 use Rattle.lookup.proofs.Keeping.{Keeps, Kept, require_keeps}
 use Rattle.lookup.proofs.Nesting.{nesting_alike}
+use Rattle.lookup.proofs.Obeying.{lookup_by_rules, obeys, one_answer, that_end_alone}
 use Rattle.lookup.proofs.Quiet.{Again, One, all_path, empty_is_refused, goes_its_way, relative_decides, relative_is_some}
 use Rattle.lookup.proofs.laws.rounds_of_lawful_lookups.Goals as goal
 
@@ -125,4 +126,8 @@ returns c = record {
       ap (λ (o : Option Fault). unless_refused o (lookup m allowed t dir r)) accepted ∙ first_acceptable m allowed t dir r plain (all_path r bare) relative joined quiet others;
   plain_label_covers_only_what_continues_it = λ m allowed t room dir r l vs bare outside plain beyond.
       ap (unless_refused (refusal room dir r)) (same_end m allowed t dir r (all_path r bare) outside (labelled l vs ∷ []) (untouching m allowed t dir r (all_path r bare) outside l vs plain beyond));
+  definition_obeys_the_rules = λ m allowed t limit n dir r c h. obeys m allowed t limit n dir r c h;
+  rules_give_one_answer = λ m allowed t limit a c e o w v. one_answer m allowed t limit w v;
+  rules_hold_of_that_end_alone = λ m allowed t limit n dir r c e h. that_end_alone m allowed t limit n dir r c e h;
+  lookups_end_by_the_rules = λ m allowed t dir r o. lookup_by_rules m allowed t dir r o;
 }
