@@ -1,4 +1,6 @@
 pub mod Ending
+pub mod Firsts
+pub mod Fitting
 pub mod Keeping
 pub mod Nesting
 pub mod Obeying

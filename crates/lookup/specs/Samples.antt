@@ -12,6 +12,7 @@ use Rattle.settings.specs.declared.enforcement.EnforceExtension.TheVariants.{Aut
 use Rattle.settings.specs.Tables.{Alias, Tables, ignore, labelled, to}
 use Rattle.lookup.specs.Faults.{bad_directory, bad_request, broken_lookup, broken_manifest, empty_request, ignored, long_text, no_memory, not_found, recursion, unmatched}
 use Rattle.lookup.specs.Outcomes.{Outcome, Room, answer, buffers_after, number_of, path, refused}
+use Rattle.lookup.specs.Quiet.{QuietCall}
 
 -- the first path that fits decides
 abbrev pub listed : List (Text × Kind) → List Text → Kind
@@ -128,3 +129,7 @@ calls =
 -- each answers with that number and leaves those bytes
 abbrev pub EachCallLeavesItsBytes : Type 0
 EachCallLeavesItsBytes = AllByRecursion (λ s. (number_of s.0, buffers_after s.0 nines) ≡ s.1) calls
+
+-- `./a` from `/lib` is a quiet request
+abbrev pub SomeRequestIsQuiet : Type 0
+SomeRequestIsQuiet = QuietCall (tree library) (js [] []) room (codes "/lib") (codes "./a")

@@ -9,6 +9,12 @@ ghost use Rattle.lookup.specs.Laws.{
   PlainLabelCoversOnlyWhatContinuesIt,
 };
 ghost use Rattle.lookup.specs.Outcomes.{rounds_at_most};
+ghost use Rattle.lookup.specs.Quiet.{
+  NothingFoundIfNonePasses,
+  QuietRequestEndsIn0Or22,
+  QuietRequestFits,
+  QuietRequestGivesTheFirst,
+};
 ghost use Rattle.lookup.specs.RuleLaws.{
   DefinitionObeysTheRules,
   LookupsEndByTheRules,
@@ -25,6 +31,10 @@ pub fn rounds_of_lawful_lookups() -> usize
     ensures nesting_of_rounds_never_shows { NestingNeverShows }
     ensures first_acceptable_candidate_is_handed_out { FirstAcceptableCandidateIsHandedOut }
     ensures plain_label_covers_only_what_continues_it { PlainLabelCoversOnlyWhatContinuesIt }
+    ensures quiet_request_fits { QuietRequestFits }
+    ensures quiet_request_gives_the_first_acceptable_candidate { QuietRequestGivesTheFirst }
+    ensures nothing_is_found_exactly_when_no_candidate_is_acceptable { NothingFoundIfNonePasses }
+    ensures quiet_request_ends_in_a_path_or_22 { QuietRequestEndsIn0Or22 }
     ensures definition_obeys_the_rules { DefinitionObeysTheRules }
     ensures rules_give_one_answer { RulesGiveOneAnswer }
     ensures rules_hold_of_that_end_alone { RulesHoldOfThatEndAlone }
