@@ -1,5 +1,5 @@
 -- The laws of lookups. Assumes nothing.
-use Rattle.std.specs.Prelude.{◌≡◌, ◌+◌, ◌≤◌, ℕ, Bool, true, false, cond, not, ◌&&◌, List, [], ◌∷◌, Some, None}
+use Rattle.std.specs.Prelude.{◌≡◌, ◌+◌, ◌≤◌, ℕ, Bool, true, false, cond, not, ◌&&◌, List, [], ◌∷◌, Some, None, is_some}
 use Rattle.texts.specs.Texts.{HASH, QUESTION, Text, has}
 use Rattle.paths.specs.Joins.{join, joins}
 use Rattle.specifier.specs.declared.branch.Branch.TheVariants as way
@@ -11,7 +11,7 @@ use Rattle.settings.specs.Tables.{Alias, Tables, Value, labelled}
 use Rattle.alias.specs.Forms.{touches}
 use Rattle.alias.specs.Laws.{Continues, is_plain}
 use Rattle.candidates.specs.Candidates.{Candidate, broken_at, candidates, inward, overlong, try}
-use Rattle.lookup.specs.Faults.{broken_manifest, long_text, not_found}
+use Rattle.lookup.specs.Faults.{broken_manifest, long_text, not_found, precedes}
 use Rattle.lookup.specs.Lookups.{Context, Ended, ends_in, failed, missed, require}
 use Rattle.lookup.specs.Outcomes.{Outcome, Room, answer, handed_out, path, refusal, refused, rounds_at_most, rounds_of}
 
@@ -97,3 +97,12 @@ abbrev pub NestingNeverShows : Type 0
 NestingNeverShows =
     (m : Meaning) (allowed : Allowed) (t : Tables) (limit n k : ℕ) (dir r : Text) (c : Context) → limit ≤ n + c.rounds → limit ≤ k + c.rounds
     → require m allowed t limit n dir r c ≡ require m allowed t limit k dir r c
+
+-- a call ended in a fault that precedes the lookup
+abbrev pub ended_before : Outcome → Bool
+ended_before (path p q f n) = false
+ended_before (refused f n) = precedes f
+
+-- a call answers 1, 2 or 20 exactly if it was refused before the lookup: so its answer says whether the work memory is as it was
+abbrev pub AnswerSaysIfTheLookupBegan : Type 0
+AnswerSaysIfTheLookupBegan = (m : Meaning) (allowed : Allowed) (t : Tables) (room : Room) (dir r : Text) → ended_before (answer m allowed t room dir r) ≡ is_some (refusal room dir r)

@@ -1,6 +1,7 @@
 // The laws of lookups stand on the number that bounds them.
 ghost use Rattle.std.specs.Prelude.{◌≡◌};
 ghost use Rattle.lookup.specs.Laws.{
+  AnswerSaysIfTheLookupBegan,
   AtMost64RoundsRun,
   EndsInAPathOrAFault,
   FirstAcceptableCandidateIsHandedOut,
@@ -28,6 +29,7 @@ pub fn rounds_of_lawful_lookups() -> usize
     ensures only_acceptable_paths_are_handed_out { OnlyAcceptablePathsAreHandedOut }
     ensures a_lookup_ends_in_a_path_or_a_fault { EndsInAPathOrAFault }
     ensures at_most_64_rounds_run { AtMost64RoundsRun }
+    ensures answer_says_if_the_lookup_began { AnswerSaysIfTheLookupBegan }
     ensures nesting_of_rounds_never_shows { NestingNeverShows }
     ensures first_acceptable_candidate_is_handed_out { FirstAcceptableCandidateIsHandedOut }
     ensures plain_label_covers_only_what_continues_it { PlainLabelCoversOnlyWhatContinuesIt }

@@ -27,6 +27,7 @@ returns c = record {
   counts_the_lookups = refl;
   each_lookup_holds = (refl, (refl, (refl, (refl, (refl, (refl, (refl, (refl, (refl, (refl, (refl, (refl, (refl, (refl, (refl, (refl, (refl, (refl, (refl, (refl, (refl, (refl, (refl, (refl, (refl, (refl, (refl, (refl, (refl, (refl, (refl, (refl, (refl, (refl, (refl, (refl, (refl, tt)))))))))))))))))))))))))))))))))))));
   each_call_leaves_its_bytes = (refl, (refl, (refl, (refl, (refl, (refl, (refl, (refl, (refl, (refl, (refl, (refl, (refl, tt)))))))))))));
+  each_call_leaves_its_memory = (refl, (refl, (refl, (refl, (refl, tt)))));
   some_request_is_quiet = record {
     proper = record { nowhere = refl; few_mains = λ p. omega arith; short_mains = λ p. tt; found_well = finds_well };
     limits = record {
