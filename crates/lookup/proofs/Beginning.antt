@@ -1,5 +1,7 @@
 -- A lookup that began never ends in a fault that precedes it. Assumes nothing.
-use Rattle.std.proofs.Common.{◌≡◌, ℕ, Bool, true, false, cond, Some, None, refl, is_some, arith}
+use Rattle.std.proofs.Common.{◌≡◌, ℕ, zero, suc, Bool, true, false, cond, List, length, replicate, Some, None, Option, refl, is_some, arith}
+use Rattle.std.specs.List.{AllByRecursion}
+use Rattle.std.proofs.lemmas.List.{length-replicate}
 use Rattle.texts.specs.Texts.{Text}
 use Rattle.texts.specs.Parts.{parts}
 use Rattle.specifier.specs.Accepted.{askable, startable}
@@ -7,10 +9,10 @@ use Rattle.tree.specs.declared.answers.Way.TheVariants as asked
 use Rattle.tree.specs.Acceptances.{Allowed}
 use Rattle.tree.specs.Meanings.{Finding, Meaning, faulty, found, missing}
 use Rattle.settings.specs.Tables.{Tables}
-use Rattle.lookup.specs.Faults.{bad_directory, bad_request, no_memory, precedes}
+use Rattle.lookup.specs.Faults.{Fault, bad_directory, bad_request, no_memory, precedes}
 use Rattle.lookup.specs.Laws.{ended_before}
 use Rattle.lookup.specs.Lookups.{Context, Ended, answered_by, ends_in, failed, missed, require}
-use Rattle.lookup.specs.Outcomes.{Room, answer, fresh, lookup, outcome_of, refusal, roomy, rounds_at_most, unless_refused}
+use Rattle.lookup.specs.Outcomes.{Room, answer, area_after, fresh, lookup, outcome_of, refusal, roomy, rounds_at_most, unless_refused}
 use Rattle.lookup.specs.Rules.{Asked, Ends}
 use Rattle.lookup.specs.Rules as rule
 use Rattle.lookup.proofs.Obeying.{obeys}
@@ -83,3 +85,13 @@ module _ (m : Meaning) (allowed : Allowed) (t : Tables) where
         at true true false = refl
         at true false c = refl
         at false b c = refl
+
+zeroed : (n : ℕ) → AllByRecursion (λ (b : ℕ). b ≡ 0) (replicate n 0)
+zeroed zero = tt
+zeroed (suc n) = (refl, zeroed n)
+
+-- the text area after a call, by why it was refused
+pub area_left : (early : Option Fault) (area : List ℕ)
+    → (early ≡ None → (length (area_after early area) ≡ length area) × AllByRecursion (λ b. b ≡ 0) (area_after early area)) × ((f : Fault) → early ≡ Some f → area_after early area ≡ area)
+area_left None area = (λ h. (length-replicate (length area) 0, zeroed (length area)), λ f h. absurd (let g : None ≡ Some f = h in cc))
+area_left (Some f) area = (λ h. absurd (let g : Some f ≡ None = h in cc), λ g h. refl)

@@ -8,6 +8,7 @@ ghost use Rattle.lookup.specs.Laws.{
   NestingNeverShows,
   OnlyAcceptablePathsAreHandedOut,
   PlainLabelCoversOnlyWhatContinuesIt,
+  TextAreaIsZeroedOrAsItWas,
 };
 ghost use Rattle.lookup.specs.Outcomes.{rounds_at_most};
 ghost use Rattle.lookup.specs.Quiet.{
@@ -30,6 +31,7 @@ pub fn rounds_of_lawful_lookups() -> usize
     ensures a_lookup_ends_in_a_path_or_a_fault { EndsInAPathOrAFault }
     ensures at_most_64_rounds_run { AtMost64RoundsRun }
     ensures answer_says_if_the_lookup_began { AnswerSaysIfTheLookupBegan }
+    ensures text_area_is_zeroed_or_as_it_was { TextAreaIsZeroedOrAsItWas }
     ensures nesting_of_rounds_never_shows { NestingNeverShows }
     ensures first_acceptable_candidate_is_handed_out { FirstAcceptableCandidateIsHandedOut }
     ensures plain_label_covers_only_what_continues_it { PlainLabelCoversOnlyWhatContinuesIt }

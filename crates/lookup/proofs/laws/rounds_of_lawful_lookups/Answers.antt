@@ -17,7 +17,7 @@ use Rattle.lookup.specs.Faults.{Fault}
 use Rattle.lookup.specs.Laws.{FindsAcceptablePaths, relabelled, untouched}
 use Rattle.lookup.specs.Lookups.{answered_by, by_way, Context, Ended, ends_in, failed, missed, require}
 use Rattle.lookup.specs.Outcomes.{fresh, handed_out, lookup, outcome_of, refusal, rounds_at_most, rounds_of, unless_refused}
-use Rattle.lookup.proofs.Beginning.{says_if_begun}
+use Rattle.lookup.proofs.Beginning.{area_left, says_if_begun}
 use Rattle.lookup.proofs.Ending.{require_decides}
 use Rattle.lookup.proofs.Firsts.{candidates_decide, ends_in_0_or_22, gives_the_first, nothing_if_none}
 use Rattle.lookup.proofs.Fitting.{all_fits}
@@ -116,6 +116,7 @@ returns c = record {
   a_lookup_ends_in_a_path_or_a_fault = λ m allowed t limit n dir r c. require_decides m allowed t limit n dir r c;
   at_most_64_rounds_run = λ m allowed t room dir r. few m allowed t dir r (refusal room dir r);
   answer_says_if_the_lookup_began = λ m allowed t room dir r. says_if_begun m allowed t dir r room;
+  text_area_is_zeroed_or_as_it_was = λ room dir r area. area_left (refusal room dir r) area;
   nesting_of_rounds_never_shows = λ m allowed t limit n k dir r c h g. nesting_alike m allowed t limit n k dir r c h g;
   first_acceptable_candidate_is_handed_out = λ m allowed t room dir r plain accepted bare relative joined quiet others.
       ap (λ (o : Option Fault). unless_refused o (lookup m allowed t dir r)) accepted ∙ candidates_decide m allowed t dir r plain (all_path r bare) relative joined quiet others;
