@@ -15,11 +15,11 @@ use Rattle.settings.specs.Tables.{Tables}
 use Rattle.alias.specs.Attempts.{Attempt, attempts}
 use Rattle.alias.specs.Attempts as attempt
 use Rattle.candidates.specs.Candidates.{Candidate, broken_at, candidates, inward, is_directory, overlong, try}
-use Rattle.lookup.specs.Faults.{empty_request, long_text, not_found, passes_on, recursion, stays}
+use Rattle.lookup.specs.Faults.{Fault, empty_request, long_text, not_found, passes_on, recursion, stays}
 use Rattle.lookup.specs.Laws.{decisive}
 use Rattle.lookup.specs.Lookups.{Context, Ended, answered_by, by_way, counted, ends_in, failed, find, look, loosened, missed, or_alone, or_next, or_value, require, round, taking, tests, tries, with_fragment, with_marks}
-use Rattle.lookup.specs.Outcomes.{Outcome, fresh, lookup, outcome_of, rounds_at_most}
-use Rattle.lookup.specs.Rules.{Asked, Ends, a_path, a_place, a_request, a_round, labels_on, the_attempts, the_candidates}
+use Rattle.lookup.specs.Outcomes.{Outcome, Room, answer, fresh, lookup, outcome_of, refusal, rounds_at_most, unless_refused}
+use Rattle.lookup.specs.Rules.{Answers, Asked, Ends, a_path, a_place, a_request, a_round, labels_on, the_attempts, the_candidates}
 use Rattle.lookup.specs.Rules as rule
 use Rattle.lookup.proofs.Ending.{find_decides, require_decides}
 use Rattle.lookup.proofs.Nesting.{none_left}
@@ -301,3 +301,29 @@ module _ (m : Meaning) (allowed : Allowed) (t : Tables) (dir r : Text) where
     λ h. (require m allowed t rounds_at_most rounds_at_most dir r (fresh t), (obeys m allowed t rounds_at_most rounds_at_most dir r (fresh t) (omega arith), h)),
     λ w. ap outcome_of (sound m allowed t rounds_at_most w.1.0 rounds_at_most (omega arith)) ∙ w.1.1,
   )
+
+  -- what the rules give is the answer
+  pub given_is_answered : {room : Room} {o : Outcome} → Answers m allowed t room dir r o → answer m allowed t room dir r ≡ o
+  unfolding lookup
+  given_is_answered (rule.is_refused h) = ap (λ (x : Option Fault). unless_refused x (lookup m allowed t dir r)) h
+  given_is_answered (rule.finds h w) = ap (λ (x : Option Fault). unless_refused x (lookup m allowed t dir r)) h ∙ ap outcome_of (sound m allowed t rounds_at_most w rounds_at_most (omega arith))
+  given_is_answered (rule.fails h w) = ap (λ (x : Option Fault). unless_refused x (lookup m allowed t dir r)) h ∙ ap outcome_of (sound m allowed t rounds_at_most w rounds_at_most (omega arith))
+
+  -- and the rules give the answer
+  pub answered_is_given : (room : Room) → Answers m allowed t room dir r (answer m allowed t room dir r)
+  unfolding lookup
+  answered_is_given room = at (refusal room dir r) refl
+    where
+      ended : (e : Ended) → refusal room dir r ≡ None → Ends m allowed t rounds_at_most (a_round dir r) (fresh t) e → decisive e ≡ true → Answers m allowed t room dir r (outcome_of e)
+      ended (ends_in p c) h w k = rule.finds h w
+      ended (missed c) h w k = absurd (false≢true k)
+      ended (failed f c) h w k = rule.fails h w
+
+      at : (x : Option Fault) → refusal room dir r ≡ x → Answers m allowed t room dir r (unless_refused x (lookup m allowed t dir r))
+      at (Some f) h = rule.is_refused h
+      at None h =
+          ended (require m allowed t rounds_at_most rounds_at_most dir r (fresh t)) h (obeys m allowed t rounds_at_most rounds_at_most dir r (fresh t) (omega arith))
+          (require_decides m allowed t rounds_at_most rounds_at_most dir r (fresh t))
+
+  pub answer_by_rules : (room : Room) (o : Outcome) → (answer m allowed t room dir r ≡ o) ↔ Answers m allowed t room dir r o
+  answer_by_rules room o = (λ h. subst (Answers m allowed t room dir r) h (answered_is_given room), λ w. given_is_answered w)

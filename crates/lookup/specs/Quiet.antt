@@ -57,7 +57,7 @@ IsText overlong = ⊥
 abbrev pub MainJoins : Text → Text → Type 0
 MainJoins p main = (joins p (main_text main) ≡ true) × (length (join p (main_text main)) ≤ 212)
 
--- no text of a lookup is too long: the path that is looked for, each main text joined to it, each candidate
+-- no text is too long, nor one on the way to it: the path that is looked for, each main text joined to that, each candidate
 pub record AllFits (m : Meaning) (t : Tables) (dir r : Text) : Type 0 where
   pub path_joins : joins dir r ≡ true
   pub path_is_short : length (join dir r) ≤ 177

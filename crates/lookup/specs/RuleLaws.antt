@@ -5,10 +5,10 @@ use Rattle.tree.specs.Acceptances.{Allowed}
 use Rattle.tree.specs.Meanings.{Meaning}
 use Rattle.settings.specs.Tables.{Tables}
 use Rattle.lookup.specs.Lookups.{Context, Ended, require}
-use Rattle.lookup.specs.Outcomes.{Outcome, fresh, lookup, outcome_of, rounds_at_most}
-use Rattle.lookup.specs.Rules.{Asked, Ends, a_round}
+use Rattle.lookup.specs.Outcomes.{Outcome, Room, answer, fresh, lookup, outcome_of, rounds_at_most}
+use Rattle.lookup.specs.Rules.{Answers, Asked, Ends, a_round}
 
--- a round of the definition ends as the rules have it, wherever rounds may lie in one another as deep as there are rounds left
+-- a round of the definition ends as the rules have it, where rounds may lie in one another as deep as rounds are left
 abbrev pub DefinitionObeysTheRules : Type 0
 DefinitionObeysTheRules =
     (m : Meaning) (allowed : Allowed) (t : Tables) (limit n : ℕ) (dir r : Text) (c : Context) → limit ≤ n + c.rounds
@@ -30,3 +30,8 @@ abbrev pub LookupsEndByTheRules : Type 0
 LookupsEndByTheRules =
     (m : Meaning) (allowed : Allowed) (t : Tables) (dir r : Text) (o : Outcome)
     → (lookup m allowed t dir r ≡ o) ↔ ((e : Ended) × (Ends m allowed t rounds_at_most (a_round dir r) (fresh t) e × (outcome_of e ≡ o)))
+
+-- a call answers an outcome exactly if the rules give it
+abbrev pub CallsAnswerByTheRules : Type 0
+CallsAnswerByTheRules =
+    (m : Meaning) (allowed : Allowed) (t : Tables) (room : Room) (dir r : Text) (o : Outcome) → (answer m allowed t room dir r ≡ o) ↔ Answers m allowed t room dir r o

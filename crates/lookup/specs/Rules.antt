@@ -16,6 +16,7 @@ use Rattle.candidates.specs.Candidates.{Candidate, broken_at, candidates, inward
 use Rattle.lookup.specs.Faults.{Fault, broken_manifest, empty_request, ignored, long_text, not_found, passes_on, recursion, stays, unmatched}
 use Rattle.lookup.specs.Laws.{decisive}
 use Rattle.lookup.specs.Lookups.{Context, Ended, answered_by, counted, ends_in, failed, loosened, missed, taking, with_fragment}
+use Rattle.lookup.specs.Outcomes.{Outcome, Room, fresh, path, refusal, refused, rounds_at_most}
 
 -- what is asked in the course of a lookup
 pub data Asked : Type 0 where
@@ -136,3 +137,15 @@ module _ (m : Meaning) (allowed : Allowed) (t : Tables) (limit : ℕ) where
     -- and a text that would be too long is 28
     candidate_is_too_long : {more : List Candidate} {c : Context}
         → Ends (the_candidates (overlong ∷ more)) c (failed long_text c)
+
+-- what a call answers by the rules
+pub data Answers (m : Meaning) (allowed : Allowed) (t : Tables) (room : Room) (dir r : Text) : Outcome → Type 0 where
+  -- a call that is refused before the lookup: that fault, with no round run
+  is_refused : {f : Fault}
+      → refusal room dir r ≡ Some f → Answers m allowed t room dir r (refused f 0)
+  -- an accepted call whose request ends in a path: that path, with the query, the fragment and the rounds then
+  finds : {p : Text} {c : Context}
+      → refusal room dir r ≡ None → Ends m allowed t rounds_at_most (a_round dir r) (fresh t) (ends_in p c) → Answers m allowed t room dir r (path p c.query c.fragment c.rounds)
+  -- one whose request ends in a fault: that fault, with the rounds then
+  fails : {f : Fault} {c : Context}
+      → refusal room dir r ≡ None → Ends m allowed t rounds_at_most (a_round dir r) (fresh t) (failed f c) → Answers m allowed t room dir r (refused f c.rounds)

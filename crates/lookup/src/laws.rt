@@ -18,6 +18,7 @@ ghost use Rattle.lookup.specs.Quiet.{
   QuietRequestGivesTheFirst,
 };
 ghost use Rattle.lookup.specs.RuleLaws.{
+  CallsAnswerByTheRules,
   DefinitionObeysTheRules,
   LookupsEndByTheRules,
   RulesGiveOneAnswer,
@@ -43,6 +44,7 @@ pub fn rounds_of_lawful_lookups() -> usize
     ensures rules_give_one_answer { RulesGiveOneAnswer }
     ensures rules_hold_of_that_end_alone { RulesHoldOfThatEndAlone }
     ensures lookups_end_by_the_rules { LookupsEndByTheRules }
+    ensures calls_answer_by_the_rules { CallsAnswerByTheRules }
 {
     64
 }

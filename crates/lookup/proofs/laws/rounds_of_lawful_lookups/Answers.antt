@@ -23,7 +23,7 @@ use Rattle.lookup.proofs.Firsts.{candidates_decide, ends_in_0_or_22, gives_the_f
 use Rattle.lookup.proofs.Fitting.{all_fits}
 use Rattle.lookup.proofs.Keeping.{Keeps, Kept, require_keeps}
 use Rattle.lookup.proofs.Nesting.{nesting_alike}
-use Rattle.lookup.proofs.Obeying.{lookup_by_rules, obeys, one_answer, that_end_alone}
+use Rattle.lookup.proofs.Obeying.{answer_by_rules, lookup_by_rules, obeys, one_answer, that_end_alone}
 use Rattle.lookup.proofs.Quiet.{Again, One, all_path, empty_is_refused, goes_its_way}
 use Rattle.lookup.proofs.laws.rounds_of_lawful_lookups.Goals as goal
 
@@ -130,4 +130,5 @@ returns c = record {
   quiet_request_gives_the_first_acceptable_candidate = λ m allowed t room dir r q p. gives_the_first m allowed t room dir r q p;
   nothing_is_found_exactly_when_no_candidate_is_acceptable = λ m allowed t room dir r q. nothing_if_none m allowed t room dir r q;
   quiet_request_ends_in_a_path_or_22 = λ m allowed t room dir r q. ends_in_0_or_22 m allowed t room dir r q;
+  calls_answer_by_the_rules = λ m allowed t room dir r o. answer_by_rules m allowed t dir r room o;
 }
