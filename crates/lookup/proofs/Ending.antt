@@ -51,7 +51,7 @@ module _ (m : Meaning) (allowed : Allowed) (t : Tables) where
     way_decides way.Hash dir r c = answer_decides r (m.lookup asked.Hash r (parts dir)) c
     way_decides way.Package dir r c = answer_decides r (m.lookup asked.Package r (parts dir)) c
 
-    find_decides : (dir r : Text) (c : Context) → decisive (find m allowed t again dir r c) ≡ true
+    pub find_decides : (dir r : Text) (c : Context) → decisive (find m allowed t again dir r c) ≡ true
     unfolding find
     find_decides dir r c = next_decides (by_labels m allowed t again dir r c) (λ d. by_way m allowed t again (branch r) dir r d) (λ d. way_decides (branch r) dir r d)
 

@@ -112,7 +112,7 @@ module _ (m : Meaning) (allowed : Allowed) (t : Tables) (limit k : ℕ) where
     round_same dir r c h =
         ap (λ (x : Ended). cond (empty (path_of r)) (failed (empty_request r) c) x) (marks_same (taking r c).query (taking r c).fragment dir (path_of r) (taking r c) h)
 
-none_left : (a b : ℕ) → b ≤ a → ltb a b ≡ false
+pub none_left : (a b : ℕ) → b ≤ a → ltb a b ≡ false
 none_left a b h = ⊎_elim
     (λ (e : ltb a b ≡ true). absurd (omega (arith, h, ltb-true a b e)))
     (λ (e : ltb a b ≡ false). e)

@@ -63,3 +63,17 @@ stays recursion = false
 stays long_text = true
 stays (broken_manifest p) = false
 stays (broken_lookup t) = false
+
+-- the faults that a call is refused with before the lookup: 1, 2 and 20
+abbrev pub precedes : Fault → Bool
+precedes no_memory = true
+precedes bad_directory = true
+precedes bad_request = true
+precedes (empty_request t) = false
+precedes (not_found t) = false
+precedes (unmatched r l) = false
+precedes (ignored p) = false
+precedes recursion = false
+precedes long_text = false
+precedes (broken_manifest p) = false
+precedes (broken_lookup t) = false

@@ -1,5 +1,6 @@
 -- The laws of lookups. Assumes nothing.
-use Rattle.std.specs.Prelude.{◌≡◌, ◌+◌, ◌≤◌, ℕ, Bool, true, false, cond, not, ◌&&◌, List, [], ◌∷◌, Some, None}
+use Rattle.std.specs.Prelude.{◌≡◌, ◌+◌, ◌≤◌, ℕ, Bool, true, false, cond, not, ◌&&◌, List, [], ◌∷◌, length, Some, None, is_some}
+use Rattle.std.specs.List.{AllByRecursion}
 use Rattle.texts.specs.Texts.{HASH, QUESTION, Text, has}
 use Rattle.paths.specs.Joins.{join, joins}
 use Rattle.specifier.specs.declared.branch.Branch.TheVariants as way
@@ -11,9 +12,9 @@ use Rattle.settings.specs.Tables.{Alias, Tables, Value, labelled}
 use Rattle.alias.specs.Forms.{touches}
 use Rattle.alias.specs.Laws.{Continues, is_plain}
 use Rattle.candidates.specs.Candidates.{Candidate, broken_at, candidates, inward, overlong, try}
-use Rattle.lookup.specs.Faults.{broken_manifest, long_text, not_found}
+use Rattle.lookup.specs.Faults.{Fault, broken_manifest, long_text, not_found, precedes}
 use Rattle.lookup.specs.Lookups.{Context, Ended, ends_in, failed, missed, require}
-use Rattle.lookup.specs.Outcomes.{Outcome, Room, answer, handed_out, path, refusal, refused, rounds_at_most, rounds_of}
+use Rattle.lookup.specs.Outcomes.{Outcome, Room, answer, area_after, handed_out, path, refusal, refused, rounds_at_most, rounds_of}
 
 -- package and hash lookup of a host find only acceptable paths
 abbrev pub FindsAcceptablePaths : Meaning → Allowed → List Text → Type 0
@@ -97,3 +98,19 @@ abbrev pub NestingNeverShows : Type 0
 NestingNeverShows =
     (m : Meaning) (allowed : Allowed) (t : Tables) (limit n k : ℕ) (dir r : Text) (c : Context) → limit ≤ n + c.rounds → limit ≤ k + c.rounds
     → require m allowed t limit n dir r c ≡ require m allowed t limit k dir r c
+
+-- a call ended in a fault that precedes the lookup
+abbrev pub ended_before : Outcome → Bool
+ended_before (path p q f n) = false
+ended_before (refused f n) = precedes f
+
+-- a call answers 1, 2 or 20 exactly if it was refused before the lookup: so its answer says whether the work memory is as it was
+abbrev pub AnswerSaysIfTheLookupBegan : Type 0
+AnswerSaysIfTheLookupBegan = (m : Meaning) (allowed : Allowed) (t : Tables) (room : Room) (dir r : Text) → ended_before (answer m allowed t room dir r) ≡ is_some (refusal room dir r)
+
+-- an accepted call leaves as many bytes of the text area as it was lent, each of them 0; a refused one leaves them as they were
+abbrev pub TextAreaIsZeroedOrAsItWas : Type 0
+TextAreaIsZeroedOrAsItWas =
+    (room : Room) (dir r : Text) (area : List ℕ)
+    → (refusal room dir r ≡ None → (length (area_after (refusal room dir r) area) ≡ length area) × AllByRecursion (λ b. b ≡ 0) (area_after (refusal room dir r) area))
+    × ((f : Fault) → refusal room dir r ≡ Some f → area_after (refusal room dir r) area ≡ area)

@@ -1,5 +1,5 @@
 -- What a lookup answers. Assumes nothing.
-use Rattle.std.specs.Prelude.{ℕ, Bool, cond, ◌&&◌, List, ◌++◌, length, drop, Some, None, Option, nat_le}
+use Rattle.std.specs.Prelude.{ℕ, Bool, cond, ◌&&◌, List, ◌++◌, length, drop, replicate, Some, None, Option, nat_le}
 use Rattle.texts.specs.Texts.{Text}
 use Rattle.specifier.specs.Accepted.{askable, startable}
 use Rattle.tree.specs.Acceptances.{Allowed}
@@ -77,3 +77,16 @@ buffers_after (refused f n) b = (written (texts f).0 b.0, (written (texts f).1 b
 abbrev pub number_of : Outcome → ℕ
 number_of (path p q f n) = 0
 number_of (refused f n) = number f
+
+-- lent memory after a call: a refusal before the lookup leaves it as it was, an accepted call leaves it blank throughout
+abbrev pub memory_after : {A : Type 0} → A → Option Fault → List A → List A
+memory_after blank None held = replicate (length held) blank
+memory_after blank (Some f) held = held
+
+-- the text area after a call: its bytes are zeroed, those beyond what a call asks for too
+abbrev pub area_after : Option Fault → List ℕ → List ℕ
+area_after early area = memory_after 0 early area
+
+-- and the rows, by what a blank row is
+abbrev pub rows_after : {Row : Type 0} → Row → Option Fault → List Row → List Row
+rows_after blank early rows = memory_after blank early rows

@@ -1,5 +1,5 @@
 -- Worked lookups. Assumes nothing.
-use Rattle.std.specs.Prelude.{◌≡◌, ℕ, true, false, cond, List, [], ◌∷◌, ◌++◌, Some, None, codes, replicate}
+use Rattle.std.specs.Prelude.{◌≡◌, ℕ, true, false, cond, List, [], ◌∷◌, ◌++◌, Some, None, Option, codes, replicate}
 use Rattle.std.specs.List.{AllByRecursion}
 use Rattle.texts.specs.Texts.{NUL, Text}
 use Rattle.texts.specs.Parts.{parts, same_parts}
@@ -10,8 +10,9 @@ use Rattle.tree.specs.declared.answers.Way.TheVariants.{Package, Hash}
 use Rattle.tree.specs.Meanings.{Finding, Meaning, Noted, faulty, found, missing, noted, unnoted, unreadable}
 use Rattle.settings.specs.declared.enforcement.EnforceExtension.TheVariants.{Auto}
 use Rattle.settings.specs.Tables.{Alias, Tables, ignore, labelled, to}
-use Rattle.lookup.specs.Faults.{bad_directory, bad_request, broken_lookup, broken_manifest, empty_request, ignored, long_text, no_memory, not_found, recursion, unmatched}
-use Rattle.lookup.specs.Outcomes.{Outcome, Room, answer, buffers_after, number_of, path, refused}
+use Rattle.lookup.specs.Faults.{Fault, bad_directory, bad_request, broken_lookup, broken_manifest, empty_request, ignored, long_text, no_memory, not_found, recursion, unmatched}
+use Rattle.lookup.specs.Outcomes.{Outcome, Room, answer, area_after, buffers_after, number_of, path, refusal, refused, rows_after}
+use Rattle.lookup.specs.Quiet.{QuietCall}
 
 -- the first path that fits decides
 abbrev pub listed : List (Text × Kind) → List Text → Kind
@@ -128,3 +129,28 @@ calls =
 -- each answers with that number and leaves those bytes
 abbrev pub EachCallLeavesItsBytes : Type 0
 EachCallLeavesItsBytes = AllByRecursion (λ s. (number_of s.0, buffers_after s.0 nines) ≡ s.1) calls
+
+-- a text area of 9s and two rows, and the same blank
+abbrev pub used : List ℕ × List Text
+used = (replicate 12 9, codes "a" ∷ codes "b" ∷ [])
+
+abbrev pub blank : List ℕ × List Text
+blank = (replicate 12 0, [] ∷ [] ∷ [])
+
+-- calls, each with what that work memory holds after it: a lookup, one with an empty path, and the refusals 1, 2 and 20
+abbrev pub memories : List (Option Fault × (List ℕ × List Text))
+memories =
+    (refusal room (codes "/lib") (codes "./a"), blank)
+    ∷ (refusal room (codes "/lib") [], blank)
+    ∷ (refusal (record { area = 131071; rows = 1024; first = 255; second = 255; third = 255 }) (codes "/lib") (codes "./a"), used)
+    ∷ (refusal room (codes "lib") (codes "./a"), used)
+    ∷ (refusal room (codes "/lib") (128 ∷ []), used)
+    ∷ []
+
+-- each leaves that
+abbrev pub EachCallLeavesItsMemory : Type 0
+EachCallLeavesItsMemory = AllByRecursion (λ s. (area_after s.0 used.0, rows_after [] s.0 used.1) ≡ s.1) memories
+
+-- `./a` from `/lib` is a quiet request
+abbrev pub SomeRequestIsQuiet : Type 0
+SomeRequestIsQuiet = QuietCall (tree library) (js [] []) room (codes "/lib") (codes "./a")

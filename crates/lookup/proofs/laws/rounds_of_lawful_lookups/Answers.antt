@@ -2,7 +2,6 @@ use Rattle.std.proofs.Common.{◌≡◌, ◌≤◌, true, false, List, [], ◌�
 use Rattle.std.proofs.lemmas.Bool.{cases_Bool, cond-false, false≢true}
 use Rattle.texts.specs.Texts.{Text, empty}
 use Rattle.texts.specs.Parts.{parts}
-use Rattle.paths.specs.Joins.{joins}
 use Rattle.specifier.specs.declared.branch.Branch.{Branch}
 use Rattle.specifier.specs.declared.branch.Branch.TheVariants as way
 use Rattle.specifier.specs.Branches.{branch}
@@ -15,13 +14,17 @@ use Rattle.alias.specs.Forms.{touches}
 use Rattle.alias.specs.Laws.{Continues, is_plain}
 use Rattle.alias.proofs.Touching.{plain_touches}
 use Rattle.lookup.specs.Faults.{Fault}
-use Rattle.lookup.specs.Laws.{FindsAcceptablePaths, all_untouched, candidates_of, decided, relabelled, untouched}
+use Rattle.lookup.specs.Laws.{FindsAcceptablePaths, relabelled, untouched}
 use Rattle.lookup.specs.Lookups.{answered_by, by_way, Context, Ended, ends_in, failed, missed, require}
 use Rattle.lookup.specs.Outcomes.{fresh, handed_out, lookup, outcome_of, refusal, rounds_at_most, rounds_of, unless_refused}
+use Rattle.lookup.proofs.Beginning.{area_left, says_if_begun}
 use Rattle.lookup.proofs.Ending.{require_decides}
+use Rattle.lookup.proofs.Firsts.{candidates_decide, ends_in_0_or_22, gives_the_first, nothing_if_none}
+use Rattle.lookup.proofs.Fitting.{all_fits}
 use Rattle.lookup.proofs.Keeping.{Keeps, Kept, require_keeps}
 use Rattle.lookup.proofs.Nesting.{nesting_alike}
-use Rattle.lookup.proofs.Quiet.{Again, One, all_path, empty_is_refused, goes_its_way, relative_decides, relative_is_some}
+use Rattle.lookup.proofs.Obeying.{answer_by_rules, lookup_by_rules, obeys, one_answer, that_end_alone}
+use Rattle.lookup.proofs.Quiet.{Again, One, all_path, empty_is_refused, goes_its_way}
 use Rattle.lookup.proofs.laws.rounds_of_lawful_lookups.Goals as goal
 
 some_is : {x y : Text} → Some x ≡ Some y → x ≡ y
@@ -85,14 +88,6 @@ module _ (m : Meaning) (allowed : Allowed) (t : Tables) (dir r : Text) where
   few (Some f) = omega arith
   few None = few_end (require m allowed t rounds_at_most rounds_at_most dir r (fresh t)) (require_keeps m allowed t rounds_at_most Few Every bounded rounds_at_most dir r (fresh t) (omega arith))
 
-  -- a quiet request: its candidates decide
-  module _ (plain : t.context ≡ false) (bare : AllPath r) (relative : branch r ≡ way.Relative) (joined : joins dir r ≡ true) (quiet : untouched t.aliases r ≡ true) (others : all_untouched t.aliases (candidates_of m t dir r) ≡ true) where
-    first_acceptable : lookup m allowed t dir r ≡ decided m allowed t.restrictions r (candidates_of m t dir r)
-    first_acceptable =
-        goes_its_way m allowed t dir r bare (relative_is_some r relative) quiet
-        ∙ ap (λ (b : Branch). outcome_of (by_way m allowed t (Again m allowed t) b dir r (One m allowed t))) relative
-        ∙ relative_decides m allowed t dir r plain joined others
-
 -- a label that does not touch a bare request for a package
 module _ (m : Meaning) (allowed : Allowed) (t : Tables) (dir r : Text) (bare : AllPath r) (outside : branch r ≡ way.Package) where
   package_end : (labels : List Alias) → empty r ≡ false → untouched labels r ≡ true
@@ -120,9 +115,20 @@ returns c = record {
   only_acceptable_paths_are_handed_out = λ m allowed t plain finds room dir r p h. fine m allowed t dir r plain finds (refusal room dir r) p h;
   a_lookup_ends_in_a_path_or_a_fault = λ m allowed t limit n dir r c. require_decides m allowed t limit n dir r c;
   at_most_64_rounds_run = λ m allowed t room dir r. few m allowed t dir r (refusal room dir r);
+  answer_says_if_the_lookup_began = λ m allowed t room dir r. says_if_begun m allowed t dir r room;
+  text_area_is_zeroed_or_as_it_was = λ room dir r area. area_left (refusal room dir r) area;
   nesting_of_rounds_never_shows = λ m allowed t limit n k dir r c h g. nesting_alike m allowed t limit n k dir r c h g;
   first_acceptable_candidate_is_handed_out = λ m allowed t room dir r plain accepted bare relative joined quiet others.
-      ap (λ (o : Option Fault). unless_refused o (lookup m allowed t dir r)) accepted ∙ first_acceptable m allowed t dir r plain (all_path r bare) relative joined quiet others;
+      ap (λ (o : Option Fault). unless_refused o (lookup m allowed t dir r)) accepted ∙ candidates_decide m allowed t dir r plain (all_path r bare) relative joined quiet others;
   plain_label_covers_only_what_continues_it = λ m allowed t room dir r l vs bare outside plain beyond.
       ap (unless_refused (refusal room dir r)) (same_end m allowed t dir r (all_path r bare) outside (labelled l vs ∷ []) (untouching m allowed t dir r (all_path r bare) outside l vs plain beyond));
+  definition_obeys_the_rules = λ m allowed t limit n dir r c h. obeys m allowed t limit n dir r c h;
+  rules_give_one_answer = λ m allowed t limit a c e o w v. one_answer m allowed t limit w v;
+  rules_hold_of_that_end_alone = λ m allowed t limit n dir r c e h. that_end_alone m allowed t limit n dir r c e h;
+  lookups_end_by_the_rules = λ m allowed t dir r o. lookup_by_rules m allowed t dir r o;
+  quiet_request_fits = λ m t room dir r q. all_fits m t room dir r q;
+  quiet_request_gives_the_first_acceptable_candidate = λ m allowed t room dir r q p. gives_the_first m allowed t room dir r q p;
+  nothing_is_found_exactly_when_no_candidate_is_acceptable = λ m allowed t room dir r q. nothing_if_none m allowed t room dir r q;
+  quiet_request_ends_in_a_path_or_22 = λ m allowed t room dir r q. ends_in_0_or_22 m allowed t room dir r q;
+  calls_answer_by_the_rules = λ m allowed t room dir r o. answer_by_rules m allowed t dir r room o;
 }
