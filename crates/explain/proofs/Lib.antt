@@ -2,4 +2,5 @@ pub mod Bounds
 pub mod DecidingSteps
 pub mod FillingSteps
 pub mod FrontLine
+pub mod QuietSteps
 pub mod Writing

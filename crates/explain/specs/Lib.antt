@@ -5,6 +5,7 @@ pub mod FrontLine
 pub mod Labels
 pub mod Legible
 pub mod Offers
+pub mod Quiet
 pub mod Questions
 pub mod Readings
 pub mod Refusals

@@ -1,4 +1,4 @@
-// Says in words how a sheet's requests are read, what a host says of them, what labels try and which candidates there are.
+// Says in words how a sheet's requests are read, what a host says of them, what labels try, which candidates there are and where quiet requests end.
 #![tactic(auto)]
 
 ghost use Rattle.cache.specs.Held.{Agrees, held};
@@ -11,6 +11,7 @@ mod front;
 mod numbered;
 mod offer;
 mod question;
+mod quiet;
 mod reading;
 mod refusal;
 mod sentence;
@@ -25,6 +26,7 @@ use front::fill;
 use listing::Listing;
 use offer::offers;
 use question::Question;
+use quiet::quiet_end;
 use reading::{Reading, sought};
 use sentence::{Labels, Offered, Refused, Told};
 use settings::Settings;
@@ -73,6 +75,23 @@ fn explain_text(
     Ok(())
 }
 
+// Where a lookup of a quiet question ends, in a sentence with the law that says so.
+fn explain_quiet(
+    rt: &HostRuntime,
+    host: &mut Cache<Listing>,
+    settings: &Settings,
+    question: Question,
+) -> anyhow::Result<()>
+    requires sound { Agrees (listed (rows host.old.below)).kind (held host.old.recent) }
+    ensures still_sound { Agrees (listed (rows host.new.below)).kind (held host.new.recent) }
+{
+    let policy = PartCount { max: MAX_DEPTH };
+    if let Some(end) = quiet_end(rt.alloc(), host, &policy, settings, question)? {
+        println!(rt; "{end}")?;
+    }
+    Ok(())
+}
+
 // The sentence on a line that is refused.
 fn refuse(rt: &HostRuntime, line: u64, cause: Cause, text: &[u8]) -> anyhow::Result<()> {
     println!(rt; "{}", Refused { line, cause, text })?;
@@ -113,7 +132,8 @@ fn explain(
         explain_text(rt, host, settings, Question { directory, request })?;
     }
     let request = reading.path.as_bytes();
-    explain_text(rt, host, settings, Question { directory, request })
+    explain_text(rt, host, settings, Question { directory, request })?;
+    explain_quiet(rt, host, settings, question)
 }
 
 fn run(rt: &HostRuntime) -> anyhow::Result<()> {

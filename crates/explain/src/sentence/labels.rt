@@ -78,7 +78,7 @@ impl fmt::Display for Outcomes<'_> {
 }
 
 // Whether any of these labels touches a request.
-fn any_touches(aliases: &[AliasRow], request: &[u8]) -> bool
+pub(crate) fn any_touches(aliases: &[AliasRow], request: &[u8]) -> bool
     ensures one_touches_by_its_form { result ≡ list_any (λ a. touches a.label request.now) (map alias_of aliases.now) }
 {
     aliases.iter().any(|row| key_matches(row.label(), request))

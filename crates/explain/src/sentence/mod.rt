@@ -1,10 +1,13 @@
 // The sentences, each with the text that it writes.
 mod labels;
 mod offered;
+mod quiet;
 mod refused;
 mod told;
 
 pub use labels::Labels;
+pub(crate) use labels::any_touches;
 pub use offered::Offered;
+pub use quiet::QuietEnd;
 pub use refused::Refused;
 pub use told::Told;
