@@ -1,8 +1,17 @@
+pub mod Areas
+pub mod Attempted
+pub mod Calls
 pub mod Faults
 pub mod Laws
 pub mod Lookups
+pub mod Marks
+pub mod Moves
+pub mod Opened
 pub mod Outcomes
 pub mod Quiet
 pub mod RuleLaws
 pub mod Rules
 pub mod Samples
+pub mod Towers
+pub mod Tried
+pub mod Turns

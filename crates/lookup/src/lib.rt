@@ -1,6 +1,7 @@
 // What a lookup answers, by definition, with worked lookups and laws.
 #![tactic(auto)]
 
+mod calls;
 mod laws;
 mod samples;
 
