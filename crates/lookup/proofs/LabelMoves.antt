@@ -20,8 +20,8 @@ use Rattle.lookup.specs.Attempted.{Attempted, Stops}
 use Rattle.lookup.specs.Calls.{again, labelled, plugged, resumed, waiting}
 use Rattle.lookup.specs.Lookups.{Ended, by_way, failed, missed, or_next}
 use Rattle.lookup.specs.Moves.{label_moves, weights}
-use Rattle.lookup.specs.Opened.{context_of, fault_of, first_unit, shown}
-use Rattle.lookup.specs.Turns.{Follows, Kept, Labelled, Moved, came_back, labels_row, loosened, round_row, rows_of}
+use Rattle.lookup.specs.Opened.{ShortFault, context_of, fault_of, first_unit, shown}
+use Rattle.lookup.specs.Turns.{EndsShort, Follows, Kept, Labelled, Moved, came_back, labels_row, loosened, round_row, rows_of}
 use Rattle.lookup.proofs.Areas.{front_stays, text_in_front_stays}
 use Rattle.lookup.proofs.Contexts.{context_stays}
 
@@ -82,13 +82,14 @@ module _ (m : Meaning) (allowed : Allowed) (t : Tables) (limit : ℕ) (a : Asked
       later = omega arith;
       below = front_kept;
       long = only.long;
+      short = λ z. tt;
     }
 
   -- an attempt that ends the search
-  pub fault_moves : (f : Told) → Stops u t.aliases (left m dir r t.aliases p) f → Moved m allowed t limit w (labels_row a p) (Ok None) c (Return (Err f)) u c
+  pub fault_moves : (f : Told) → Stops u t.aliases (left m dir r t.aliases p) f × ShortFault f → Moved m allowed t limit w (labels_row a p) (Ok None) c (Return (Err f)) u c
   fault_moves f n = record {
     means =
-        ap (λ (x : Ended). or_next x (λ d. by_way m allowed t (again m allowed t limit) (branch r) dir r d)) (n m allowed t (again m allowed t limit) dir (context_of w c))
+        ap (λ (x : Ended). or_next x (λ d. by_way m allowed t (again m allowed t limit) (branch r) dir r d)) (n.0 m allowed t (again m allowed t limit) dir (context_of w c))
         ∙ (λ k. failed (fault_of u t.aliases f) (sym marks_kept k));
     falls = omega arith;
     kept = tt;
@@ -96,13 +97,14 @@ module _ (m : Meaning) (allowed : Allowed) (t : Tables) (limit : ℕ) (a : Asked
     later = omega arith;
     below = front_kept;
     long = only.long;
+    short = λ z. n.1;
   }
 
   -- no attempt is left, and the request went its way
   module _
       (none : left m dir r t.aliases p ≡ []) (v : List ℕ) (move : Move) (on_its_way : OnlyIn (first_unit a.round + 3) u v)
       (way : by_way m allowed t (again m allowed t limit) (branch (text_at u a.text)) (text_at u a.directory) (text_at u a.text) (context_of u c) ≡ plugged m allowed t limit (map (shown m t v) (rows_of move)) (came_back v t.aliases move c))
-      (fewer : weights t (map (shown m t v) (rows_of move)) < label_moves t 0) (kept : Kept c.rounds (labels_row a p) move)
+      (fewer : weights t (map (shown m t v) (rows_of move)) < label_moves t 0) (kept : Kept c.rounds (labels_row a p) move) (ends : EndsShort move)
     where
       none_left : length (left m dir r t.aliases p) ≡ 0
       none_left = ap length none
@@ -119,4 +121,5 @@ module _ (m : Meaning) (allowed : Allowed) (t : Tables) (limit : ℕ) (a : Asked
         later = omega arith;
         below = front_stays (first_unit a.round + 3) (256 * (first_unit a.round + 3)) u v on_its_way (omega arith) ∙ front_kept;
         long = on_its_way.long ∙ only.long;
+        short = λ z. ends;
       }

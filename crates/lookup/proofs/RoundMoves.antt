@@ -60,6 +60,7 @@ module _ (a : Asked) (c : ResolveContext) (h : Labelled c a) (its : c.rounds ≡
     fragment = h.fragment;
     front = refl;
     long = refl;
+    short = tt;
   }
 
   module _ (f : Place) (no_query : c.query ≡ None) (its_fragment : c.fragment ≡ Some f) (w : List ℕ) where
@@ -86,6 +87,7 @@ module _ (a : Asked) (c : ResolveContext) (h : Labelled c a) (its : c.rounds ≡
       fragment = h.fragment;
       front = refl;
       long = refl;
+      short = tt;
     }
 
     -- path and fragment together are tried first
@@ -129,4 +131,5 @@ module _ (a : Asked) (c : ResolveContext) (h : Labelled c a) (its : c.rounds ≡
         fragment = tt;
         front = front_stays (first_unit a.round + 2) (256 * first_unit a.round) w u only (omega arith);
         long = only.long;
+        short = tt;
       }

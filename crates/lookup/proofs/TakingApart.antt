@@ -76,7 +76,7 @@ module _ (w : List ℕ) (a : Asked) (start : a.text.start ≡ 256 * first_unit a
 
   module _ (rounds : ℕ) (its : rounds ≡ a.round + 1) where
     mark_there : (p : Place) → p.start + p.len ≤ length s → MarkIn rounds (record { start = a.text.start + p.start; len = p.len })
-    mark_there p h = record { round = a.round; begun = omega (arith, its); there = (omega (arith, start), omega (arith, start, h, size, short)) }
+    mark_there p h = record { round = a.round; begun = omega (arith, its); there = (omega (arith, start), omega (arith, start, h, size, short)); short = omega (arith, h, size, short) }
 
     pub marks_there : (q old : Option Place) → IfSome q (λ p. p.start + p.len ≤ length s) → MarksIn rounds old → MarksIn rounds (newer_mark (shifted a.text.start q) old)
     marks_there None old h o = o

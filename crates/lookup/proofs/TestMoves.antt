@@ -18,7 +18,7 @@ use Rattle.lookup.specs.Areas.{OnlyIn}
 use Rattle.lookup.specs.Attempted.{Attempted, Stops}
 use Rattle.lookup.specs.Calls.{again, resumed, testing, waiting}
 use Rattle.lookup.specs.Lookups.{Ended, ends_in, failed, missed, or_next}
-use Rattle.lookup.specs.Opened.{context_of, fault_of, first_unit}
+use Rattle.lookup.specs.Opened.{ShortFault, context_of, fault_of, first_unit}
 use Rattle.lookup.specs.Turns.{Follows, Moved, Testing, loosened, round_from, test_row}
 use Rattle.lookup.proofs.Areas.{front_stays, text_in_front_stays}
 use Rattle.lookup.proofs.Contexts.{context_stays}
@@ -74,13 +74,14 @@ module _ (m : Meaning) (allowed : Allowed) (t : Tables) (limit : ℕ) (a : Asked
       later = omega arith;
       below = front_kept;
       long = only.long;
+      short = λ z. tt;
     }
 
   -- an attempt that ends the search
-  pub fault_moves : (f : Told) → Stops u t.aliases (left m r r t.aliases p) f → Moved m allowed t limit w (test_row a p) (Ok None) c (Return (Err f)) u c
+  pub fault_moves : (f : Told) → Stops u t.aliases (left m r r t.aliases p) f × ShortFault f → Moved m allowed t limit w (test_row a p) (Ok None) c (Return (Err f)) u c
   fault_moves f n = record {
     means =
-        ap (λ (x : Ended). or_next x (λ d. cond (acceptable m allowed t.restrictions r) (ends_in r d) (missed d))) (n m allowed t (again m allowed t limit) r (context_of w c))
+        ap (λ (x : Ended). or_next x (λ d. cond (acceptable m allowed t.restrictions r) (ends_in r d) (missed d))) (n.0 m allowed t (again m allowed t limit) r (context_of w c))
         ∙ (λ k. failed (fault_of u t.aliases f) (sym marks_kept k));
     falls = omega arith;
     kept = tt;
@@ -88,6 +89,7 @@ module _ (m : Meaning) (allowed : Allowed) (t : Tables) (limit : ℕ) (a : Asked
     later = omega arith;
     below = front_kept;
     long = only.long;
+    short = λ z. n.1;
   }
 
   -- no attempt is left
@@ -97,6 +99,7 @@ module _ (m : Meaning) (allowed : Allowed) (t : Tables) (limit : ℕ) (a : Asked
 
     pub accepted_moves : acceptable m allowed t.restrictions r ≡ true → Moved m allowed t limit w (test_row a p) (Ok None) c (Return (Ok (Some a.text))) u c
     accepted_moves e = record {
+      short = λ z. h.short;
       means = all_tried ∙ cond-true _ _ _ e ∙ (λ k. ends_in (sym candidate_stays k) (sym marks_kept k));
       falls = omega arith;
       kept = tt;
@@ -108,6 +111,7 @@ module _ (m : Meaning) (allowed : Allowed) (t : Tables) (limit : ℕ) (a : Asked
 
     pub refused_moves : acceptable m allowed t.restrictions r ≡ false → Moved m allowed t limit w (test_row a p) (Ok None) c (Return (Ok None)) u c
     refused_moves e = record {
+      short = λ z. tt;
       means = all_tried ∙ cond-false _ _ _ e ∙ (λ k. missed (sym marks_kept k));
       falls = omega arith;
       kept = tt;

@@ -22,7 +22,7 @@ use Rattle.lookup.specs.Calls.{again, resumed, testing, trying}
 use Rattle.lookup.specs.Faults.{not_found}
 use Rattle.lookup.specs.Lookups.{Ended, failed, missed, or_next}
 use Rattle.lookup.specs.Moves.{attempts_most, candidate_moves, test_moves}
-use Rattle.lookup.specs.Opened.{context_of, fault_of, first_unit}
+use Rattle.lookup.specs.Opened.{ShortFault, context_of, fault_of, first_unit}
 use Rattle.lookup.specs.Tried.{NextTried, StopsTrying}
 use Rattle.lookup.specs.Turns.{Follows, Moved, Trying, test_row, trying_row, with_text}
 use Rattle.lookup.proofs.Areas.{front_stays, text_in_front_stays}
@@ -52,7 +52,7 @@ module _ (m : Meaning) (allowed : Allowed) (t : Tables) (limit : ℕ) (a : Asked
   module _ (then : Walk) (x : Place) (q : Progress) (n : NextTried u (first_unit a.round + 4) (left t fully p m walk) (Some (Ok x)) (left t fully p m then)) (all : attempts_left m (text_at u x) (text_at u x) t.aliases q ≡ attempts m (text_at u x) (text_at u x) t.aliases) where
     goes_on : Follows c.rounds (trying_row a path fully walk) 0 (trying_row a path fully then)
     goes_on = record {
-      placed = record { directory = h.directory; text = h.text; short = h.short; stage = h.path };
+      placed = record { directory = h.directory; text = h.text; short = h.short; stage = (h.path, h.short_path) };
       begun = h.begun;
       free = omega arith;
       room = omega arith;
@@ -93,13 +93,14 @@ module _ (m : Meaning) (allowed : Allowed) (t : Tables) (limit : ℕ) (a : Asked
       later = omega arith;
       below = front_kept;
       long = only.long;
+      short = λ z. tt;
     }
 
   -- a fault in the place of a candidate
-  pub fault_moves : (f : Told) → StopsTrying u (left t fully p m walk) f → Moved m allowed t limit w (trying_row a path fully walk) (Ok None) c (Return (Err f)) u c
+  pub fault_moves : (f : Told) → StopsTrying u (left t fully p m walk) f × ShortFault f → Moved m allowed t limit w (trying_row a path fully walk) (Ok None) c (Return (Err f)) u c
   fault_moves f n = record {
     means =
-        ap (λ (x : Ended). or_next x (λ d. failed (not_found r) d)) (n t.aliases m allowed t (again m allowed t limit) (context_of w c))
+        ap (λ (x : Ended). or_next x (λ d. failed (not_found r) d)) (n.0 t.aliases m allowed t (again m allowed t limit) (context_of w c))
         ∙ (λ k. failed (fault_of u t.aliases f) (sym marks_kept k));
     falls = omega arith;
     kept = tt;
@@ -107,6 +108,7 @@ module _ (m : Meaning) (allowed : Allowed) (t : Tables) (limit : ℕ) (a : Asked
     later = omega arith;
     below = front_kept;
     long = only.long;
+    short = λ z. n.1;
   }
 
   -- no candidate is left
@@ -121,4 +123,5 @@ module _ (m : Meaning) (allowed : Allowed) (t : Tables) (limit : ℕ) (a : Asked
     later = omega arith;
     below = front_kept;
     long = only.long;
+    short = λ z. h.short;
   }

@@ -44,10 +44,11 @@ module _ (m : Meaning) (allowed : Allowed) (t : Tables) (limit : ℕ) (w : List 
           free = omega arith;
           room = omega arith;
         };
-        sound = record { few = few; query = sound.query; fragment = record { round = placed.stage.round; begun = omega (arith, placed.stage.begun, begun); there = placed.stage.there } };
+        sound = record { few = few; query = sound.query; fragment = record { round = placed.stage.round; begun = omega (arith, placed.stage.begun, begun); there = placed.stage.there; short = placed.stage.short } };
         later = omega arith;
         below = refl;
         long = refl;
+        short = λ z. tt;
       }
 
   -- every open call has a move left
@@ -71,6 +72,7 @@ module _ (m : Meaning) (allowed : Allowed) (t : Tables) (limit : ℕ) (w : List 
           later = omega arith;
           below = refl;
           long = refl;
+          short = is.short;
         }
 
     -- where nothing came back, or what counts as nothing, the call goes on
@@ -86,4 +88,5 @@ module _ (m : Meaning) (allowed : Allowed) (t : Tables) (limit : ℕ) (w : List 
           later = here.later;
           below = here.below;
           long = here.long;
+          short = λ z. here.short tt;
         }

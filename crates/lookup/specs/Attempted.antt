@@ -9,7 +9,7 @@ use Rattle.settings.specs.Tables.{Alias, Tables}
 use Rattle.alias.specs.Attempts.{Attempt, again}
 use Rattle.lookup.specs.declared.calls.Fault.{Fault as Told}
 use Rattle.lookup.specs.Lookups.{Context, Ended, failed, tries}
-use Rattle.lookup.specs.Opened.{fault_of}
+use Rattle.lookup.specs.Opened.{ShortFault, fault_of}
 
 -- attempts that end in a fault at once
 abbrev pub Stops : List ℕ → List Alias → List Attempt → Told → Type 0
@@ -20,7 +20,7 @@ Stops w labels before f =
 -- an attempt starts a round with a text of its unit, or ends the search
 abbrev pub Attempted : List ℕ → List Alias → ℕ → List Attempt → Result Place Told → List Attempt → Type 0
 Attempted w labels unit before (Ok p) after = (before ≡ again (text_at w p) ∷ after) × (p.start ≡ 256 * unit) × (p.len ≤ 255)
-Attempted w labels unit before (Err f) after = Stops w labels before f
+Attempted w labels unit before (Err f) after = Stops w labels before f × ShortFault f
 
 -- the next attempt, if one is left
 abbrev pub Next : List ℕ → List Alias → ℕ → List Attempt → Option (Result Place Told) → List Attempt → Type 0

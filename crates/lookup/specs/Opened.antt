@@ -73,6 +73,7 @@ pub record MarkIn (rounds : ℕ) (p : Place) : Type 0 where
   pub round : ℕ
   pub begun : round < rounds
   pub there : In (first_unit round) p
+  pub short : p.len ≤ 255
 
 abbrev pub MarksIn : ℕ → Option Place → Type 0
 MarksIn rounds None = Unit {0}
@@ -83,7 +84,7 @@ abbrev pub StagePlaced : ℕ → ℕ → Stage → Type 0
 StagePlaced n round stage.Require = Unit {0}
 StagePlaced n round (stage.Marked f) = MarkIn (round + 1) f
 StagePlaced n round (stage.Labels p) = Unit {0}
-StagePlaced n round (stage.Candidates p fully walk) = Before n p
+StagePlaced n round (stage.Candidates p fully walk) = Before n p × (p.len ≤ 255)
 StagePlaced n round (stage.Tested p) = Unit {0}
 
 -- every text of an open call lies below its free units
@@ -103,3 +104,19 @@ StageBegun rounds n (stage.Tested p) = n < rounds
 
 abbrev pub Begun : ℕ → OpenCall → Type 0
 Begun rounds row = StageBegun rounds row.asked.round row.stage
+
+-- a fault whose text is short, and an answer whose text is
+abbrev pub ShortFault : Told → Type 0
+ShortFault (told.Empty p) = p.len ≤ 255
+ShortFault (told.NotFound p) = p.len ≤ 255
+ShortFault (told.Unmatched p i) = p.len ≤ 255
+ShortFault (told.Ignored p) = p.len ≤ 255
+ShortFault told.Recursion = Unit {0}
+ShortFault told.TooLong = Unit {0}
+ShortFault (told.BrokenManifest p) = p.len ≤ 255
+ShortFault (told.BrokenLookup p) = p.len ≤ 255
+
+abbrev pub Short : Result (Option Place) Told → Type 0
+Short (Ok (Some p)) = p.len ≤ 255
+Short (Ok None) = Unit {0}
+Short (Err f) = ShortFault f

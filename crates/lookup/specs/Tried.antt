@@ -9,7 +9,7 @@ use Rattle.settings.specs.Tables.{Alias, Tables}
 use Rattle.candidates.specs.Candidates.{Candidate, try}
 use Rattle.lookup.specs.declared.calls.Fault.{Fault as Told}
 use Rattle.lookup.specs.Lookups.{Context, Ended, failed, tests}
-use Rattle.lookup.specs.Opened.{fault_of}
+use Rattle.lookup.specs.Opened.{ShortFault, fault_of}
 
 -- candidates that end in a fault at once
 abbrev pub StopsTrying : List ℕ → List Candidate → Told → Type 0
@@ -21,4 +21,4 @@ StopsTrying w before f =
 abbrev pub NextTried : List ℕ → ℕ → List Candidate → Option (Result Place Told) → List Candidate → Type 0
 NextTried w unit before None after = before ≡ []
 NextTried w unit before (Some (Ok p)) after = (before ≡ try (text_at w p) ∷ after) × (p.start ≡ 256 * unit) × (p.len ≤ 255)
-NextTried w unit before (Some (Err f)) after = StopsTrying w before f
+NextTried w unit before (Some (Err f)) after = StopsTrying w before f × ShortFault f

@@ -20,7 +20,7 @@ use Rattle.lookup.specs.Calls.{again, plugged, resumed}
 use Rattle.lookup.specs.Lookups.{Ended, missed, round, with_marks}
 use Rattle.lookup.specs.Moves.{attempts_most, label_moves, rounds_left, weight, weights}
 use Rattle.lookup.specs.Areas.{Before}
-use Rattle.lookup.specs.Opened.{Begun, MarksIn, Placed, context_of, ended, first_unit, free_unit, shown, stage_shown}
+use Rattle.lookup.specs.Opened.{Begun, MarksIn, Placed, Short, context_of, ended, first_unit, free_unit, shown, stage_shown}
 
 -- the open calls that a move leaves, the top one first
 abbrev pub rows_of : Move → List OpenCall
@@ -99,6 +99,7 @@ pub record Trying (c : ResolveContext) (a : Asked) (p : Place) : Type 0 where
   pub directory : Before (256 * (first_unit a.round + 4)) a.directory
   pub text : Before (256 * (first_unit a.round + 4)) a.text
   pub path : Before (256 * (first_unit a.round + 4)) p
+  pub short_path : p.len ≤ 255
   pub short : a.text.len ≤ 255
   pub begun : a.round < c.rounds
   pub query : MarksIn c.rounds c.query
@@ -119,6 +120,12 @@ trying_row a path fully walk = record { asked = a; stage = stage.Candidates path
 abbrev pub labels_row : Asked → Progress → OpenCall
 labels_row a p = record { asked = a; stage = stage.Labels p }
 
+-- a move that ends its call ends it in a short text
+abbrev pub EndsShort : Move → Type 0
+EndsShort (Return a) = Short a
+EndsShort (Stay row) = Unit {0}
+EndsShort (Open row child) = Unit {0}
+
 -- a move of an open call, once this has come back to it: what it ends in stays, the moves that are left get fewer, and what lies below its free units stays
 pub record Moved (m : Meaning) (allowed : Allowed) (t : Tables) (limit : ℕ) (w : List ℕ) (row : OpenCall) (back : Result (Option Place) Told) (c : ResolveContext) (move : Move) (after : List ℕ) (d : ResolveContext) : Type 0 where
   pub means : resumed m allowed t limit (shown m t w row) (ended w t.aliases back c) ≡ plugged m allowed t limit (map (shown m t after) (rows_of move)) (came_back after t.aliases move d)
@@ -128,6 +135,7 @@ pub record Moved (m : Meaning) (allowed : Allowed) (t : Tables) (limit : ℕ) (w
   pub later : c.rounds ≤ d.rounds
   pub below : take (256 * free_unit row) after ≡ take (256 * free_unit row) w
   pub long : length after ≡ length w
+  pub short : Short back → EndsShort move
 
 -- the same, whatever the policy
 abbrev pub Moves : Meaning → Tables → ℕ → List ℕ → OpenCall → Result (Option Place) Told → ResolveContext → Move → List ℕ → ResolveContext → Type 0
@@ -159,6 +167,7 @@ pub record Begins (what : Meaning → Allowed → Tables → ℕ → Ended) (w :
   pub fragment : MarksIn d.rounds d.fragment
   pub front : take (256 * first_unit a.round) after ≡ take (256 * first_unit a.round) w
   pub long : length after ≡ length w
+  pub short : EndsShort move
 
 -- the open call whose path was tried with its fragment
 abbrev pub marked_row : Asked → Place → OpenCall
@@ -173,6 +182,7 @@ pub record IsTold (s : Stage) (back told : Result (Option Place) Told) : Type 0 
   pub same :
       (m : Meaning) (allowed : Allowed) (t : Tables) (limit : ℕ) (w : List ℕ) (dir r : Text) (c : ResolveContext)
       → resumed m allowed t limit (stage_shown m t w dir r s) (ended w t.aliases back c) ≡ resumed m allowed t limit (stage_shown m t w dir r s) (ended w t.aliases told c)
+  pub short : Short back → Short told
   pub ends_else :
       (m : Meaning) (allowed : Allowed) (t : Tables) (limit : ℕ) (w : List ℕ) (dir r : Text) (c : ResolveContext) → (told ≡ Ok None → ⊥)
       → resumed m allowed t limit (stage_shown m t w dir r s) (ended w t.aliases told c) ≡ ended w t.aliases told c

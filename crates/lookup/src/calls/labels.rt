@@ -35,6 +35,7 @@ fn attempted(
     requires room { 256 * unit + 256 ≤ length work.old }
     requires one_text { length made.now ≡ 255 }
     requires request_lies_below { Before (256 * unit) request }
+    requires short_request { request.len ≤ 255 }
     ensures says_the_same { (after : List Tried) → Attempted work.new (map alias_of aliases.now) unit (said (map alias_of aliases.now) progress.now (text_at work.old request) made.now attempt ∷ after) result after }
     ensures only_its_unit_is_written { OnlyIn unit work.old work.new }
 {
@@ -62,6 +63,7 @@ pub(crate) fn next_attempt<T: FileTree>(
     requires sound { T.FileTree.sound tree.old }
     requires room { 256 * unit + 256 ≤ length work.old }
     requires request_lies_below { Before (256 * unit) request }
+    requires short_request { request.len ≤ 255 }
     ensures next_of_the_attempts { Next work.new (tables settings.now).aliases unit (left (T.FileTree.meaning tree.old) (text_at work.old directory) (text_at work.old request) (tables settings.now).aliases progress) result.0 (left (T.FileTree.meaning tree.old) (text_at work.old directory) (text_at work.old request) (tables settings.now).aliases result.1) }
     ensures only_its_unit_is_written { OnlyIn unit work.old work.new }
     ensures same_meaning { T.FileTree.meaning tree.new ≡ T.FileTree.meaning tree.old }

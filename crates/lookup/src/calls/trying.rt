@@ -34,6 +34,7 @@ pub(crate) fn next_candidate<H: Host>(
     requires sound { H.FileTree.sound host.old }
     requires room { 256 * unit + 256 ≤ length work.old }
     requires path_lies_below { Before (256 * unit) path }
+    requires short_path { path.len ≤ 255 }
     ensures next_of_the_candidates { NextTried work.new unit (left (tables settings.now) fully_specified (text_at work.old path) (H.FileTree.meaning host.old) walk) result.0 (left (tables settings.now) fully_specified (text_at work.old path) (H.FileTree.meaning host.old) result.1) }
     ensures only_its_unit_is_written { OnlyIn unit work.old work.new }
     ensures same_meaning { H.FileTree.meaning host.new ≡ H.FileTree.meaning host.old }

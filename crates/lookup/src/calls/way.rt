@@ -10,9 +10,9 @@ ghost use Rattle.lookup.specs.Areas.{Before, OnlyIn};
 ghost use Rattle.lookup.specs.Calls.{again, plugged};
 ghost use Rattle.lookup.specs.Lookups.{answered_by, by_way, look};
 ghost use Rattle.lookup.specs.Moves.{label_moves, weights};
-ghost use Rattle.lookup.specs.Opened.{context_of, ended, first_unit, shown};
+ghost use Rattle.lookup.specs.Opened.{Short, context_of, ended, first_unit, shown};
 ghost use Rattle.alias.specs.declared.attempts.Progress.{Progress};
-ghost use Rattle.lookup.specs.Turns.{Kept, Labelled, came_back, labels_row, rows_of};
+ghost use Rattle.lookup.specs.Turns.{EndsShort, Kept, Labelled, came_back, labels_row, rows_of};
 
 use crate::calls::area::{first_unit, put};
 use crate::calls::{Answer, Asked, Fault, Move, OpenCall, ResolveContext, Stage};
@@ -40,6 +40,7 @@ fn look<H: Host>(
     ensures looks_for_the_path { (allowed : Allowed) (limit : ℕ) → look (H.FileTree.meaning host.old) allowed (tables settings.now) (again (H.FileTree.meaning host.old) allowed (tables settings.now) limit) (text_at work.old asked.text) (bytes_of path.now) (context_of work.old context) ≡ plugged (H.FileTree.meaning host.old) allowed (tables settings.now) limit (map (shown (H.FileTree.meaning host.old) (tables settings.now) work.new) (rows_of result)) (came_back work.new (tables settings.now).aliases result context) }
     ensures fewer_moves { weights (tables settings.now) (map (shown (H.FileTree.meaning host.old) (tables settings.now) work.new) (rows_of result)) < label_moves (tables settings.now) 0 }
     ensures well_kept { (p : Progress) → Kept context.rounds (labels_row asked p) result }
+    ensures ends_in_a_short_text { EndsShort result }
     ensures only_its_unit_is_written { OnlyIn (unit + 3) work.old work.new }
     ensures same_meaning { H.FileTree.meaning host.new ≡ H.FileTree.meaning host.old }
     ensures still_sound { H.FileTree.sound host.new }
@@ -73,6 +74,7 @@ fn look_up<H: Host>(
     requires room { 256 * unit + 1536 ≤ length work.old }
     requires labelled { Labelled context asked }
     ensures answered_by_the_host { (labels : List Alias) → ended work.new labels result context ≡ answered_by (text_at work.old asked.text) ((H.FileTree.meaning host.old).lookup way (text_at work.old asked.text) (parts (text_at work.old asked.directory))) (context_of work.old context) }
+    ensures ends_in_a_short_text { Short result }
     ensures only_its_unit_is_written { OnlyIn (unit + 3) work.old work.new }
     ensures same_meaning { H.FileTree.meaning host.new ≡ H.FileTree.meaning host.old }
     ensures still_sound { H.FileTree.sound host.new }
@@ -108,6 +110,7 @@ pub(crate) fn go_way<H: Host>(
     ensures goes_its_way { (allowed : Allowed) (limit : ℕ) → by_way (H.FileTree.meaning host.old) allowed (tables settings.now) (again (H.FileTree.meaning host.old) allowed (tables settings.now) limit) (branch (text_at work.old asked.text)) (text_at work.old asked.directory) (text_at work.old asked.text) (context_of work.old context) ≡ plugged (H.FileTree.meaning host.old) allowed (tables settings.now) limit (map (shown (H.FileTree.meaning host.old) (tables settings.now) work.new) (rows_of result)) (came_back work.new (tables settings.now).aliases result context) }
     ensures fewer_moves { weights (tables settings.now) (map (shown (H.FileTree.meaning host.old) (tables settings.now) work.new) (rows_of result)) < label_moves (tables settings.now) 0 }
     ensures well_kept { (p : Progress) → Kept context.rounds (labels_row asked p) result }
+    ensures ends_in_a_short_text { EndsShort result }
     ensures only_its_unit_is_written { OnlyIn (first_unit asked.round + 3) work.old work.new }
     ensures same_meaning { H.FileTree.meaning host.new ≡ H.FileTree.meaning host.old }
     ensures still_sound { H.FileTree.sound host.new }

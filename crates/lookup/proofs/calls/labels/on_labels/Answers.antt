@@ -70,4 +70,4 @@ returns-in-None-clause-one_move_of_the_call g c =
     way_moves m allowed t limit a p c.args.context c.requires.labelled few w u only none v move c.go_way-next.ensures.only_its_unit_is_written
     (transport (λ k. by_way (same k) allowed t (again (same k) allowed t limit) (branch r) (text_at u a.directory) r (context_of u c.args.context) ≡ plugged (same k) allowed t limit (map (shown (same k) t v) (rows_of move)) (came_back v t.aliases move c.args.context)) (c.go_way-next.ensures.goes_its_way allowed limit))
     (transport (λ k. weights t (map (shown (same k) t v) (rows_of move)) < label_moves t 0) c.go_way-next.ensures.fewer_moves)
-    (c.go_way-next.ensures.well_kept p)
+    (c.go_way-next.ensures.well_kept p) c.go_way-next.ensures.ends_in_a_short_text

@@ -27,6 +27,7 @@ returns-then-context-limit c =
         later = omega arith;
         below = refl;
         long = refl;
+        short = λ z. tt;
       };
     }
 
@@ -66,5 +67,6 @@ returns c =
             later = omega (arith, b.rounds);
             below = fewer_stay (256 * first_unit k.rounds) (256 * (first_unit a.round + 0)) u c.take_apart.new.work b.front (omega (arith, low)) ∙ front_stays (first_unit k.rounds) (256 * (first_unit a.round + 0)) w u only (omega (arith, low));
             long = b.long ∙ only.long;
+            short = λ z. b.short;
           };
     }

@@ -31,6 +31,7 @@ returns-in_default c =
         fragment = c.requires.sound.fragment;
         front = refl;
         long = refl;
+        short = c.requires.short;
       };
     }
 
@@ -118,5 +119,6 @@ returns c =
         fragment = b.fragment;
         front = b.front ∙ front_stays (first_unit a.round + 1) (256 * first_unit a.round) w u only (omega arith);
         long = b.long ∙ only.long;
+        short = b.short;
       };
     }

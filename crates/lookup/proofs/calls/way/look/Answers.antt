@@ -51,6 +51,7 @@ returns-in-Nothing g c =
           ∙ (λ k. failed (not_found (sym text k)) (sym same k));
       fewer_moves = omega arith;
       well_kept = λ p. tt;
+      ends_in_a_short_text = c.requires.labelled.short;
       only_its_unit_is_written = c.put-path.ensures.only_its_unit_is_written;
       same_meaning = c.kind.ensures.same_meaning;
       still_sound = c.kind.ensures.still_sound;
