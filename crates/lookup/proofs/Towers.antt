@@ -18,9 +18,9 @@ use Rattle.candidates.specs.Left.{left}
 use Rattle.lookup.specs.Calls.{Call, marked, plugged, resumed, trying}
 use Rattle.lookup.specs.Lookups.{Ended}
 use Rattle.lookup.specs.Moves.{rounds_left, weight, weights}
-use Rattle.lookup.specs.Opened.{Placed, StageBegun, ended, free_unit, shown, stage_shown}
+use Rattle.lookup.specs.Opened.{Short, Placed, StageBegun, ended, free_unit, shown, stage_shown}
 use Rattle.lookup.specs.Towers.{Tower, Under, told_then}
-use Rattle.lookup.specs.Turns.{Kept, Moved, came_back, rank, rows_of}
+use Rattle.lookup.specs.Turns.{EndsShort, Kept, Moved, came_back, rank, rows_of}
 use Rattle.lookup.proofs.Areas.{text_before}
 
 -- calls that stand on others
@@ -104,6 +104,11 @@ came_told : (w : List ℕ) (labels : List Alias) (move : Move) (c : ResolveConte
 came_told w labels (Return a) c = refl
 came_told w labels (Stay row) c = refl
 came_told w labels (Open row child) c = refl
+
+pub told_short : (move : Move) → EndsShort move → Short (told_then move)
+told_short (Return a) h = h
+told_short (Stay row) h = tt
+told_short (Open row child) h = tt
 
 mapped : {X Y : Type 0} (f : X → Y) (xs ys : List X) → map f (xs ++ ys) ≡ map f xs ++ map f ys
 mapped f [] ys = refl

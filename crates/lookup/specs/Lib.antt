@@ -9,6 +9,7 @@ pub mod Moves
 pub mod Opened
 pub mod Outcomes
 pub mod Quiet
+pub mod Resolutions
 pub mod RuleLaws
 pub mod Rules
 pub mod Samples

@@ -3,7 +3,9 @@
 
 mod calls;
 mod laws;
+mod resolution;
 mod samples;
 
 pub use laws::rounds_of_lawful_lookups;
+pub use resolution::{Found, Refused, Resolution, ResolveError};
 pub use samples::worked_lookups_hold;

@@ -3,10 +3,10 @@ ghost use Rattle.std.specs.Prelude.{◌≡◌, ◌+◌, ◌*◌, ◌≤◌, ◌+
 ghost use Rattle.stack.specs.Items.{capacity};
 ghost use Rattle.settings.specs.Meant.{tables};
 ghost use Rattle.lookup.specs.Lookups.{require};
-ghost use Rattle.lookup.specs.Opened.{ended, first_unit};
+ghost use Rattle.lookup.specs.Opened.{Short, ended, first_unit};
 ghost use Rattle.lookup.specs.Outcomes.{fresh};
 ghost use Rattle.lookup.specs.Towers.{piled, told_then};
-ghost use Rattle.lookup.specs.Turns.{rows_of};
+ghost use Rattle.lookup.specs.Turns.{Sound, rows_of};
 
 use crate::calls::area::put;
 use crate::calls::turn::step;
@@ -56,6 +56,8 @@ pub(crate) fn run<H: Host, P: Policy>(
     requires short_directory { length directory.now ≤ 255 }
     requires short_request { length request.now ≤ 255 }
     ensures ends_as_defined { ended work.new (tables settings.now).aliases result.0 result.1 ≡ require (H.FileTree.meaning host.old) (P.Policy.allowed policy.now) (tables settings.now) limit limit directory.now request.now (fresh (tables settings.now)) }
+    ensures ends_in_a_short_text { Short result.0 }
+    ensures sound_context { Sound limit result.1 }
     ensures same_text_area { length work.new ≡ length work.old }
     ensures same_meaning { H.FileTree.meaning host.new ≡ H.FileTree.meaning host.old }
     ensures still_sound { H.FileTree.sound host.new }

@@ -8,12 +8,12 @@ use Rattle.lookup.specs.declared.calls.OpenCall.{OpenCall}
 use Rattle.lookup.specs.declared.calls.Stage.TheVariants as stage
 use Rattle.lookup.specs.Calls.{again, plugged}
 use Rattle.lookup.specs.Moves.{rounds_left, weights}
-use Rattle.lookup.specs.Opened.{ended, shown}
+use Rattle.lookup.specs.Opened.{Short, ended, shown}
 use Rattle.lookup.specs.Towers.{Tower, piled}
 use Rattle.lookup.specs.Turns.{Moved, rows_of}
 use Rattle.lookup.proofs.Areas.{text_in_front_stays}
 use Rattle.lookup.proofs.Piles.{none_on_top, top_off}
-use Rattle.lookup.proofs.Towers.{fewer, same_end, tower_low, tower_then}
+use Rattle.lookup.proofs.Towers.{fewer, same_end, told_short, tower_low, tower_then}
 use Rattle.lookup.proofs.calls.run.run.Goals as goal
 
 pub step-next-requires-clause-placed : goal.step-next-requires-clause-placed
@@ -72,6 +72,7 @@ loop-row-preserved g c =
       same_area = moved.long ∙ c.loop-row.invariant.same_area;
       same_rows = c.put_on-back-in-Some.ensures.same_capacity ∙ c.in-Some.ensures.same_capacity ∙ c.loop-row.invariant.same_rows;
       sound_context = moved.sound;
+      short_back = subst Short (sym c.put_on-back-in-Some.ensures.told_to_the_top) (told_short move (moved.short c.loop-row.invariant.short_back));
       tower = subst (Tower d.rounds) (sym on) then;
       same_end =
           (λ i. plugged m allowed t c.args.limit (map (shown m t u) (on i)) (ended u t.aliases (c.put_on-back-in-Some.ensures.told_to_the_top i) d))

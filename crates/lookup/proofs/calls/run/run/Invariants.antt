@@ -3,7 +3,7 @@ use Rattle.stack.specs.Items.{capacity}
 use Rattle.settings.specs.Meant.{tables}
 use Rattle.lookup.specs.Calls.{plugged}
 use Rattle.lookup.specs.Moves.{rounds_left, weights}
-use Rattle.lookup.specs.Opened.{ended, shown}
+use Rattle.lookup.specs.Opened.{Short, ended, shown}
 use Rattle.lookup.specs.Towers.{Tower, piled}
 use Rattle.lookup.specs.Turns.{Sound}
 use Rattle.lookup.proofs.calls.run.run.Given as goal
@@ -16,6 +16,7 @@ invariant-loop-row g l = record {
   same_area : length l.work ≡ length l.initial.work;
   same_rows : capacity l.table ≡ capacity l.initial.table;
   sound_context : Sound l.limit l.context;
+  short_back : Short l.back;
   tower : Tower l.context.rounds (piled l.table);
   same_end : plugged (g.H.FileTree.meaning l.initial.host) (g.P.Policy.allowed l.policy) (tables l.settings) l.limit (map (shown (g.H.FileTree.meaning l.initial.host) (tables l.settings) l.work) (piled l.table)) (ended l.work (tables l.settings).aliases l.back l.context) ≡ plugged (g.H.FileTree.meaning l.initial.host) (g.P.Policy.allowed l.policy) (tables l.settings) l.limit (map (shown (g.H.FileTree.meaning l.initial.host) (tables l.settings) l.initial.work) (piled l.initial.table)) (ended l.initial.work (tables l.settings).aliases l.initial.back l.initial.context);
 }
