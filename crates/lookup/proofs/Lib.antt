@@ -1,3 +1,4 @@
+pub mod Answering
 pub mod Areas
 pub mod Beginning
 pub mod Bounds

@@ -1,5 +1,6 @@
 pub mod Areas
 pub mod Attempted
+pub mod Blank
 pub mod Calls
 pub mod Faults
 pub mod Laws

@@ -1,11 +1,12 @@
 -- What a call answers, by its number and the lengths of its texts. Assumes nothing.
-use Rattle.std.specs.Prelude.{ℕ, List, length, Ok, Err, None, Option}
+use Rattle.std.specs.Prelude.{ℕ, Bool, cond, length, Ok, Err, Some, None, Option}
 use Rattle.std.specs.Option.{option_map}
 use Rattle.texts.specs.Texts.{Text}
+use Rattle.specifier.specs.Accepted.{askable, startable}
 use Rattle.lookup.specs.declared.resolution.ResolveError.{ResolveError}
 use Rattle.lookup.specs.declared.resolution.ResolveError.TheVariants as error
 use Rattle.lookup.specs.declared.resolution.Resolution.{Resolution}
-use Rattle.lookup.specs.Faults.{Fault, bad_directory, bad_request, broken_lookup, broken_manifest, empty_request, ignored, long_text, no_memory, not_found, number, recursion, texts, unmatched}
+use Rattle.lookup.specs.Faults.{Fault, bad_directory, bad_request, broken_lookup, broken_manifest, empty_request, ignored, long_text, no_memory, not_found, recursion, texts, unmatched}
 use Rattle.lookup.specs.Outcomes.{Outcome, path, refused}
 
 -- the number of an error
@@ -44,3 +45,7 @@ length_of t = option_map length t
 abbrev pub resolution_of : Outcome → Resolution
 resolution_of (path p q f n) = record { outcome = Ok (record { path = length p; query = length_of q; fragment = length_of f }); rounds = n }
 resolution_of (refused f n) = record { outcome = Err (record { error = error_of f; first = length_of (texts f).0; second = length_of (texts f).1 }); rounds = n }
+
+-- the error that a call is refused with before any lookup
+abbrev pub early_error : Bool → Text → Text → Option ResolveError
+early_error is_roomy dir r = cond is_roomy (cond (startable dir) (cond (askable r) None (Some error.Request)) (Some error.Directory)) (Some error.NoMemory)

@@ -7,5 +7,4 @@ mod resolution;
 mod samples;
 
 pub use laws::rounds_of_lawful_lookups;
-pub use resolution::{Found, Refused, Resolution, ResolveError};
 pub use samples::worked_lookups_hold;

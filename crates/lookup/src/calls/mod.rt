@@ -3,6 +3,7 @@ use alias::Progress;
 use candidates::Walk;
 use texts::Place;
 
+mod answer;
 mod area;
 mod context;
 mod labels;
@@ -11,6 +12,7 @@ mod run;
 mod trying;
 mod turn;
 mod way;
+mod writing;
 
 // Texts are told by their places in the work text, which lasts as long as the lookup.
 /// Why a lookup ends without a path.
