@@ -22,6 +22,7 @@ use Rattle.settings.specs.Limits.{WithinLimits}
 use Rattle.settings.specs.Meant.{tables}
 use Rattle.settings.specs.Rows.{alias_of}
 use Rattle.settings.specs.Tables.{Alias, Tables}
+use Rattle.settings.proofs.Limited.{within_limits}
 use Rattle.alias.specs.Forms.{touches}
 use Rattle.candidates.specs.Candidates.{Candidate, broken_at, candidates, inward, overlong, try}
 use Rattle.lookup.specs.Laws.{all_untouched, candidates_of, unmarked, untouched}
@@ -33,19 +34,6 @@ use Rattle.explain.specs.Offers.{Judged, broken, by_kind, judged, passes, too_lo
 use Rattle.explain.specs.Quiet.{QuietQuestion, first_acceptable, is_relative, is_untouched, may_be_quiet, quiet_outcome}
 use Rattle.explain.specs.Readings.{within}
 use Rattle.explain.proofs.Bounds.{within_some}
-
--- settings keep the limits of their tables
-pub within_limits : (s : Settings) → WithinLimits (tables s)
-within_limits s = record {
-  few_aliases = omega (arith, length-map (take s.count s.rows) alias_of, length-take-le s.count s.rows (omega (arith, s.whole, s.within)), s.within);
-  aliases = s.aliases_kept;
-  few_extensions = omega (arith, length-map (held s.extensions) bytes_of, length-take-le s.extensions.len s.extensions.slots (omega (arith, s.extensions.whole, s.extensions.within)), s.extensions.within);
-  extensions = s.extensions_kept;
-  few_main_files = omega (arith, length-map (held s.main_files) bytes_of, length-take-le s.main_files.len s.main_files.slots (omega (arith, s.main_files.whole, s.main_files.within)), s.main_files.within);
-  main_files = s.main_files_kept;
-  few_restrictions = omega (arith, length-map (held s.restrictions) bytes_of, length-take-le s.restrictions.len s.restrictions.slots (omega (arith, s.restrictions.whole, s.restrictions.within)), s.restrictions.within);
-  restrictions = s.restrictions_kept;
-}
 
 -- what a request that may be quiet by itself is
 relative_way : (w : Branch) → is_relative w ≡ true → w ≡ way.Relative

@@ -15,7 +15,7 @@ use Rattle.candidates.specs.Candidates.{Candidate, broken_at, overlong, try}
 use Rattle.lookup.specs.Faults.{Fault, broken_manifest, long_text, not_found}
 use Rattle.lookup.specs.Laws.{all_untouched, candidates_of, decided, untouched}
 use Rattle.lookup.specs.Lookups.{by_way}
-use Rattle.lookup.specs.Outcomes.{Outcome, Room, answer, lookup, number_of, outcome_of, path, refused, unless_refused}
+use Rattle.lookup.specs.Outcomes.{rounds_of, Outcome, Room, answer, lookup, number_of, outcome_of, path, refused, unless_refused}
 use Rattle.lookup.specs.Quiet.{First, IsText, NonePasses, QuietCall}
 use Rattle.lookup.proofs.Fitting.{all_fits}
 use Rattle.lookup.proofs.Quiet.{Again, One, all_path, goes_its_way, relative_decides, relative_is_some}
@@ -103,6 +103,16 @@ module _ (m : Meaning) (allowed : Allowed) (restrictions : List Text) (r : Text)
       at true ih = inl refl
       at false ih = ih
 
+decided_in_one : (m : Meaning) (allowed : Allowed) (restrictions : List Text) (r : Text) (cs : List Candidate) → rounds_of (decided m allowed restrictions r cs) ≡ 1
+decided_in_one m allowed restrictions r [] = refl
+decided_in_one m allowed restrictions r (broken_at p ∷ more) = refl
+decided_in_one m allowed restrictions r (overlong ∷ more) = refl
+decided_in_one m allowed restrictions r (try p ∷ more) = at (acceptable m allowed restrictions p) (decided_in_one m allowed restrictions r more)
+  where
+    at : (b : Bool) → rounds_of (decided m allowed restrictions r more) ≡ 1 → rounds_of (cond b (path p None None 1) (decided m allowed restrictions r more)) ≡ 1
+    at true h = refl
+    at false h = h
+
 module _ (m : Meaning) (allowed : Allowed) (t : Tables) (room : Room) (dir r : Text) (call : QuietCall m t room dir r) where
   abbrev listed : List Candidate
   listed = candidates_of m t dir r
@@ -115,6 +125,9 @@ module _ (m : Meaning) (allowed : Allowed) (t : Tables) (room : Room) (dir r : T
       let q = call.quiet in
       ap (λ (o : Option Fault). unless_refused o (lookup m allowed t dir r)) call.accepted
       ∙ candidates_decide m allowed t dir r call.out_of_context (all_path r q.without_marks) q.is_relative (all_fits m t room dir r call).path_joins q.without_labels q.candidates_without_labels
+
+  pub one_round : rounds_of (answer m allowed t room dir r) ≡ 1
+  one_round = ap rounds_of answer_is ∙ decided_in_one m allowed t.restrictions r listed
 
   pub gives_the_first : (p : Text) → (answer m allowed t room dir r ≡ path p None None 1) ↔ First m allowed t.restrictions listed p
   gives_the_first p = (

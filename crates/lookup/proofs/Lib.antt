@@ -7,6 +7,7 @@ pub mod Contexts
 pub mod Ending
 pub mod Firsts
 pub mod Fitting
+pub mod Holding
 pub mod Keeping
 pub mod LabelMoves
 pub mod Nesting

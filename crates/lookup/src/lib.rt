@@ -6,5 +6,8 @@ mod laws;
 mod resolution;
 mod samples;
 
+pub use calls::OpenCall;
+pub use calls::answer::answer_call;
 pub use laws::rounds_of_lawful_lookups;
+pub use resolution::{Found, Refused, Resolution, ResolveError};
 pub use samples::worked_lookups_hold;

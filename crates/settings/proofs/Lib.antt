@@ -1,4 +1,5 @@
 pub mod Kept
 pub mod Labels
+pub mod Limited
 pub mod Offers
 pub mod Tests

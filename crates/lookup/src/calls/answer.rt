@@ -99,7 +99,7 @@ fn write_answer(
 }
 
 /// Answers a request from a directory: texts are written to the buffers, and the memory is blank then; what is refused before the lookup leaves both as they were.
-pub(crate) fn answer_call<H: Host, P: Policy>(
+pub fn answer_call<H: Host, P: Policy>(
     host: &mut H,
     policy: &P,
     settings: &Settings,

@@ -3,7 +3,7 @@ use alias::Progress;
 use candidates::Walk;
 use texts::Place;
 
-mod answer;
+pub(crate) mod answer;
 mod area;
 mod context;
 mod labels;

@@ -1,0 +1,62 @@
+-- A list of calls, and what each of them is answered. Assumes nothing.
+use Rattle.std.specs.Prelude.{◌≡◌, ℕ, ◌+◌, List, [], ◌∷◌, length, min}
+use Rattle.texts.specs.Texts.{Text}
+use Rattle.texts.specs.Parts.{text_at}
+use Rattle.tree.specs.Acceptances.{Allowed}
+use Rattle.tree.specs.Meanings.{Meaning}
+use Rattle.settings.specs.Tables.{Tables}
+use Rattle.lookup.specs.Outcomes.{Outcome, Room, answer, buffers_after, memory_after, refusal}
+use Rattle.lookup.specs.Resolutions.{resolution_of}
+use Rattle.resolver.specs.declared.Answered.{Answered}
+use Rattle.resolver.specs.declared.Answered.TheVariants.{Counted, Forgotten, Resolved, Unserved}
+use Rattle.resolver.specs.declared.Call.{Call}
+use Rattle.resolver.specs.declared.Call.TheVariants.{Forget, Resolve, Tally}
+use Rattle.resolver.specs.declared.Reply.{Reply}
+use Rattle.resolver.specs.Runs.{Buffers, ceiling, paths_in}
+
+-- the three buffers of a reply
+abbrev pub buffers_of : Reply → Buffers
+buffers_of reply = (reply.first, (reply.second, reply.third))
+
+-- the paths that an answer hands out
+abbrev pub paths_by : Answered → ℕ
+paths_by Unserved = 0
+paths_by (Resolved a) = paths_in a.outcome
+paths_by Forgotten = 0
+paths_by (Counted n) = 0
+
+-- the paths that replies hand out
+abbrev pub paths_of : List Reply → ℕ
+paths_of [] = 0
+paths_of (reply ∷ more) = paths_by reply.answered + paths_of more
+
+-- how much is lent to a call whose reply this is
+abbrev pub room_in : ℕ → ℕ → Reply → Room
+room_in area rows reply = record { area = area; rows = rows; first = length reply.first; second = length reply.second; third = length reply.third }
+
+module _ (m : Meaning) (allowed : Allowed) (t : Tables) (area rows : ℕ) (texts : Text) where
+  -- what a call is answered, and what its buffers hold then, where so many paths had been handed out before it: only a tally has to do with that number
+  abbrev pub due : ℕ → Call → Reply → Answered × Buffers
+  due n (Resolve dir r) old =
+      let a = answer m allowed t (room_in area rows old) (text_at texts dir) (text_at texts r) in
+      (Resolved (resolution_of a), buffers_after a (buffers_of old))
+  due n Forget old = (Forgotten, buffers_of old)
+  due n Tally old = (Counted (min n ceiling), buffers_of old)
+
+  -- each call has its reply, and the replies come to what is due; the list begins where so many paths had been handed out
+  pub data Served : ℕ → List Call → List Reply → List Reply → Type 0 where
+    no_call_left : {n : ℕ} → Served n [] [] []
+    one_call_more : {n : ℕ} (call : Call) (calls : List Call) (old new : Reply) (olds news : List Reply) →
+        (new.answered, buffers_of new) ≡ due n call old → Served (n + paths_by new.answered) calls olds news → Served n (call ∷ calls) (old ∷ olds) (new ∷ news)
+
+module _ (area rows : ℕ) (texts : Text) where
+  -- lent memory after a call, and after a list of calls: as it was until a lookup is accepted, blank from then on
+  abbrev pub memory_by : {A : Type 0} → A → Call → Reply → List A → List A
+  memory_by blank (Resolve dir r) old held = memory_after blank (refusal (room_in area rows old) (text_at texts dir) (text_at texts r)) held
+  memory_by blank Forget old held = held
+  memory_by blank Tally old held = held
+
+  abbrev pub memory_then : {A : Type 0} → A → List Call → List Reply → List A → List A
+  memory_then blank [] olds held = held
+  memory_then blank (call ∷ calls) [] held = held
+  memory_then blank (call ∷ calls) (old ∷ olds) held = memory_then blank calls olds (memory_by blank call old held)
