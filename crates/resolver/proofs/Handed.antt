@@ -1,10 +1,9 @@
 -- From what is defined of a call to what its answer and its buffers say. Assumes nothing.
-use Rattle.std.proofs.Common.{◌≡◌, ◌≤◌, ◌↔◌, ℕ, true, false, List, [], ◌∷◌, ◌++◌, length, take, drop, cond, Ok, Err, Some, None, Option, Result, sym, refl, ap, subst, ◌∙◌, arith}
+use Rattle.std.proofs.Common.{◌≡◌, ◌≤◌, ℕ, List, ◌++◌, length, take, drop, Ok, Err, Some, None, Option, Result, sym, refl, ap, subst, ◌∙◌, arith}
 use Rattle.std.proofs.Math.Path.{transport}
-use Rattle.std.specs.Option.{option_map}
 use Rattle.std.proofs.Math.Seq.{take-append_seam}
 use Rattle.texts.specs.Texts.{Text}
-use Rattle.tree.specs.Acceptances.{Allowed, acceptable}
+use Rattle.tree.specs.Acceptances.{Allowed}
 use Rattle.tree.specs.Meanings.{Meaning, Proper}
 use Rattle.settings.specs.Limits.{WithinLimits}
 use Rattle.settings.specs.Tables.{Tables}
@@ -14,11 +13,9 @@ use Rattle.lookup.specs.declared.resolution.ResolveError.{ResolveError}
 use Rattle.lookup.specs.declared.resolution.ResolveError.TheVariants as error
 use Rattle.lookup.specs.declared.resolution.Resolution.{Resolution}
 use Rattle.lookup.specs.Faults.{Fault, bad_directory, bad_request, broken_lookup, broken_manifest, empty_request, ignored, long_text, no_memory, not_found, recursion, unmatched}
-use Rattle.lookup.specs.Laws.{FindsAcceptablePaths, candidates_of, decided}
 use Rattle.lookup.specs.Outcomes.{Outcome, Room, answer, buffers_after, handed_out, path, refusal, refused, rounds_at_most, rounds_of}
-use Rattle.lookup.specs.Quiet.{First, NonePasses, QuietCall}
+use Rattle.lookup.specs.Quiet.{QuietCall}
 use Rattle.lookup.specs.Resolutions.{error_of, length_of, resolution_of}
-use Rattle.candidates.specs.Candidates.{Candidate, broken_at, overlong, try}
 use Rattle.lookup.proofs.Firsts.{gives_the_first, nothing_if_none, one_round}
 use Rattle.lookup.proofs.Holding.{few, fine}
 use Rattle.resolver.specs.Handed.{AcceptedQuiet, FirstCandidate, NotFoundIfNone, OnlyAcceptablePaths, hands_out_alone, path_in, says_not_found}
@@ -121,8 +118,7 @@ module _ (m : Meaning) (allowed : Allowed) (t : Tables) (room : Room) (dir r : T
 
         pub not_found_if_none : NotFoundIfNone m allowed t room dir r a first
         not_found_if_none q =
-            let law = nothing_if_none m allowed t room dir r (quiet_call q) in
-            (
+            let law = nothing_if_none m allowed t room dir r (quiet_call q) in (
               λ h. law.0 (missing_said o b r (one_round m allowed t room dir r (quiet_call q)) (transport (λ i. says_not_found r (answered i) (kept i)) h)),
               λ n. transport (λ i. says_not_found r (sym answered i) (sym kept i)) (subst (λ (x : Outcome). says_not_found r (resolution_of x) (buffers_after x b).0) (sym (law.1 n)) (refl, take-append_seam r (drop (length r) b.0))),
             )

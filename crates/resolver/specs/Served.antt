@@ -5,7 +5,7 @@ use Rattle.texts.specs.Parts.{text_at}
 use Rattle.tree.specs.Acceptances.{Allowed}
 use Rattle.tree.specs.Meanings.{Meaning}
 use Rattle.settings.specs.Tables.{Tables}
-use Rattle.lookup.specs.Outcomes.{Outcome, Room, answer, buffers_after, memory_after, refusal}
+use Rattle.lookup.specs.Outcomes.{Room, answer, buffers_after, memory_after, refusal}
 use Rattle.lookup.specs.Resolutions.{resolution_of}
 use Rattle.resolver.specs.declared.Answered.{Answered}
 use Rattle.resolver.specs.declared.Answered.TheVariants.{Counted, Forgotten, Resolved, Unserved}

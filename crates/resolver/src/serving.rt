@@ -55,7 +55,9 @@ impl<H: Host, P: Policy> Resolver<H, P> {
             Call::Resolve { directory, request } => {
                 let directory = directory.of(texts);
                 let request = request.of(texts);
-                Answered::Resolved(self.resolve(directory, request, area, rows, first, second, third))
+                Answered::Resolved(self.resolve(
+                    directory, request, area, rows, first, second, third,
+                ))
             }
             Call::Forget => {
                 self.forget();

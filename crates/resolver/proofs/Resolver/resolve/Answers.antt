@@ -1,4 +1,4 @@
-use Rattle.std.proofs.Common.{◌≡◌, ◌+◌, ◌∷◌, [], ◌++◌, length, min, ap, sym, subst}
+use Rattle.std.proofs.Common.{◌∷◌, [], ◌++◌, ap, sym, subst}
 use Rattle.tree.specs.Meanings.{Meaning}
 use Rattle.settings.specs.Meant.{tables}
 use Rattle.settings.proofs.Limited.{within_limits}

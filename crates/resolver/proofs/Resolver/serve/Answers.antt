@@ -1,52 +1,69 @@
-use Rattle.std.proofs.Common.{rules, ◌≡◌, ℕ, ◌+◌, length, min, take, drop, replicate, ◌-◌, ◌*◌, ◌<◌, ◌≤◌, ◌/◌, ◌%◌, Bool, true, false, nat_eq, nat_lt, List, [], ◌∷◌, ◌++◌, slice_index_or, slice_set, bit_and, bit_or, Fits, w8, w32, w64, Bor, MutBor}
-use Rattle.lookup.specs.Blank.{blank_call}
-use Rattle.resolver.specs.Runs.{ceiling}
-use Rattle.resolver.specs.declared.Answered.TheVariants.{Unserved}
-use Rattle.resolver.specs.Served.{Served, buffers_of, due, memory_by, memory_then, paths_by, paths_of}
+use Rattle.std.proofs.Common.{◌≡◌, ◌+◌, ◌<◌, [], length, min, take, slice_index_or, slice_set, refl, ap, ◌∙◌, arith}
+use Rattle.std.proofs.lemmas.List.{take_more_set}
+use Rattle.std.proofs.Math.Path.{transport}
 use Rattle.settings.specs.Meant.{tables}
+use Rattle.lookup.specs.Blank.{blank_call}
+use Rattle.resolver.specs.declared.Answered.TheVariants.{Unserved}
+use Rattle.resolver.specs.declared.Call.{Call}
+use Rattle.resolver.specs.declared.Call.TheVariants.{Resolve}
+use Rattle.resolver.specs.declared.Reply.{Reply}
+use Rattle.resolver.specs.Runs.{ceiling}
+use Rattle.resolver.specs.Served.{buffers_of, due, memory_by, no_call_left, paths_of}
+use Rattle.resolver.proofs.Served.{memory_to, others_wait, paths_then, served_to}
 use Rattle.resolver.proofs.Resolver.serve.Goals as goal
 
--- src/serving.rt:89:9
 pub loop-i-init : goal.loop-i-init
-loop-i-init g c = ?
+loop-i-init g c = record {
+  still_sound = c.requires.sound;
+  same_meaning = refl;
+  same_settings = refl;
+  same_policy = refl;
+  as_many_bytes = refl;
+  as_many_rows = refl;
+  served_so_far = λ n h. no_call_left;
+  others_wait = refl;
+  counted_so_far = omega (arith, c.args.self.now.counts_up_to_its_ceiling);
+  area_so_far = refl;
+  rows_so_far = refl;
+}
 
--- src/serving.rt:90:13
-pub serve_one-requires : goal.serve_one-requires
-serve_one-requires g c = ?
-
--- src/serving.rt:89:9
 pub loop-i-preserved : goal.loop-i-preserved
-loop-i-preserved g c = ?
-
--- src/serving.rt:69:5
-pub returns-clause-every_run_answers_by_its_definition :
-    goal.returns-clause-every_run_answers_by_its_definition
-returns-clause-every_run_answers_by_its_definition g c = ?
-
--- src/serving.rt:69:5
-pub returns-clause-other_replies_stay : goal.returns-clause-other_replies_stay
-returns-clause-other_replies_stay g c = ?
-
--- src/serving.rt:69:5
-pub returns-clause-tally_counts_the_paths : goal.returns-clause-tally_counts_the_paths
-returns-clause-tally_counts_the_paths g c = ?
-
--- src/serving.rt:69:5
-pub returns-clause-area_as_defined : goal.returns-clause-area_as_defined
-returns-clause-area_as_defined g c = ?
-
--- src/serving.rt:69:5
-pub returns-clause-rows_as_defined : goal.returns-clause-rows_as_defined
-returns-clause-rows_as_defined g c = ?
-
--- src/serving.rt:69:5
-pub returns-clause-settings_and_policy_stay : goal.returns-clause-settings_and_policy_stay
-returns-clause-settings_and_policy_stay g c = ?
-
--- src/serving.rt:69:5
-pub returns-clause-same_meaning : goal.returns-clause-same_meaning
-returns-clause-same_meaning g c = ?
-
--- src/serving.rt:69:5
-pub returns-clause-still_sound : goal.returns-clause-still_sound
-returns-clause-still_sound g c = ?
+loop-i-preserved g c =
+    let s = c.args.self.now in
+    let before = c.loop-i.invariant in
+    let one = c.serve_one.ensures in
+    let i = c.loop-i.i in
+    let calls = c.args.calls.now in
+    let olds = c.args.replies.now in
+    let news = c.loop-i.replies in
+    let new = c.serve_one.new.reply in
+    let texts = c.args.texts.now in
+    let no_call : Call = Resolve (record { start = 0; len = 0 }) (record { start = 0; len = 0 }) in
+    let no_reply : Reply = record { answered = Unserved; first = []; second = []; third = [] } in
+    let call : Call = slice_index_or calls i no_call in
+    let old : Reply = slice_index_or news i no_reply in
+    let called : i < length calls = omega (arith, c.loop-i-test.true, c.min-served.ensures) in
+    let replied : i < length news = omega (arith, c.loop-i-test.true, c.min-served.ensures, c.loop-i.auto.replies) in
+    let waited : i < length olds = omega (arith, c.loop-i-test.true, c.min-served.ensures) in
+    let counted : c.serve_one.new.self.handed_out ≡ min (s.handed_out + paths_of (take (i + 1) (slice_set news i new))) ceiling =
+    omega (arith, one.paths_count, before.counted_so_far, ap paths_of (take_more_set news i new replied), paths_then (take i news) new) in
+    record {
+      still_sound = one.still_sound;
+      same_meaning = one.same_meaning ∙ before.same_meaning;
+      same_settings = one.settings_and_policy_stay.0 ∙ before.same_settings;
+      same_policy = one.settings_and_policy_stay.1 ∙ before.same_policy;
+      as_many_bytes = omega (arith, c.serve_one.auto.area, before.as_many_bytes);
+      as_many_rows = omega (arith, c.serve_one.auto.rows, before.as_many_rows);
+      served_so_far = λ n h.
+          let here : c.loop-i.self.handed_out ≡ min (n + paths_of (take i news)) ceiling = omega (arith, h, before.counted_so_far) in
+          served_to (g.H.FileTree.meaning s.host) (g.P.Policy.allowed s.policy) (tables s.settings) (length c.args.area.now) (length c.args.rows.now) texts n calls olds news i new no_call no_reply called replied waited before.others_wait (before.served_so_far n h)
+          (transport (λ j. (new.answered, buffers_of new) ≡ due (before.same_meaning j) (g.P.Policy.allowed (before.same_policy j)) (tables (before.same_settings j)) (before.as_many_bytes j) (before.as_many_rows j) texts (n + paths_of (take i news)) call old) (one.reply_is_due (n + paths_of (take i news)) here));
+      others_wait = others_wait olds news i new replied waited before.others_wait;
+      counted_so_far = counted;
+      area_so_far =
+          memory_to (length c.args.area.now) (length c.args.rows.now) texts 0 calls olds news i no_call no_reply c.args.area.now c.loop-i.area c.serve_one.new.area called replied waited before.others_wait before.area_so_far
+          (one.area_as_defined ∙ (λ j. memory_by (before.as_many_bytes j) (before.as_many_rows j) texts 0 call old c.loop-i.area));
+      rows_so_far =
+          memory_to (length c.args.area.now) (length c.args.rows.now) texts blank_call calls olds news i no_call no_reply c.args.rows.now c.loop-i.rows c.serve_one.new.rows called replied waited before.others_wait before.rows_so_far
+          (one.rows_as_defined ∙ (λ j. memory_by (before.as_many_bytes j) (before.as_many_rows j) texts blank_call call old c.loop-i.rows));
+    }

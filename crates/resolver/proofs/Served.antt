@@ -1,0 +1,81 @@
+-- A list of calls that is served one call further. Assumes nothing.
+use Rattle.std.proofs.Common.{◌≡◌, ◌<◌, ℕ, ◌+◌, List, [], ◌∷◌, ◌++◌, length, take, drop, slice_index_or, slice_set, sym, refl, ap, ◌∙◌, arith}
+use Rattle.std.proofs.lemmas.List.{drop-set-lt, drop_more, length-take-le, take_more, take_more_set}
+use Rattle.std.proofs.Math.Path.{transport}
+use Rattle.texts.specs.Texts.{Text}
+use Rattle.tree.specs.Acceptances.{Allowed}
+use Rattle.tree.specs.Meanings.{Meaning}
+use Rattle.settings.specs.Tables.{Tables}
+use Rattle.resolver.specs.declared.Call.{Call}
+use Rattle.resolver.specs.declared.Reply.{Reply}
+use Rattle.resolver.specs.Served.{Served, buffers_of, due, memory_by, memory_then, no_call_left, one_call_more, paths_by, paths_of}
+
+pub paths_then : (news : List Reply) (new : Reply) → paths_of (news ++ new ∷ []) ≡ paths_of news + paths_by new.answered
+paths_then [] new = omega arith
+paths_then (r ∷ news) new = omega (arith, paths_then news new)
+
+-- what comes behind the first waits as it did
+pub others_wait : (olds news : List Reply) (i : ℕ) (new : Reply) → i < length news → i < length olds → drop i news ≡ drop i olds → drop (i + 1) (slice_set news i new) ≡ drop (i + 1) olds
+others_wait olds news i new h g e =
+    let first : slice_index_or news i new ∷ drop (i + 1) news ≡ slice_index_or olds i new ∷ drop (i + 1) olds = sym (drop_more news i new h) ∙ e ∙ drop_more olds i new g in
+    drop-set-lt (i + 1) news i new (omega arith) ∙ (let rest : drop (i + 1) news ≡ drop (i + 1) olds = cc in rest)
+
+-- and the first is as it was
+pub first_waits : (olds news : List Reply) (i : ℕ) (d : Reply) → i < length news → i < length olds → drop i news ≡ drop i olds → slice_index_or news i d ≡ slice_index_or olds i d
+first_waits olds news i d h g e =
+    let first : slice_index_or news i d ∷ drop (i + 1) news ≡ slice_index_or olds i d ∷ drop (i + 1) olds = sym (drop_more news i d h) ∙ e ∙ drop_more olds i d g in
+    cc
+
+module _ (m : Meaning) (allowed : Allowed) (t : Tables) (area rows : ℕ) (texts : Text) where
+  abbrev Serves : ℕ → List Call → List Reply → List Reply → Type 0
+  Serves = Served m allowed t area rows texts
+
+  served_then : (n : ℕ) (cs : List Call) (os ns : List Reply) (call : Call) (old new : Reply) → Serves n cs os ns
+      → (new.answered, buffers_of new) ≡ due m allowed t area rows texts (n + paths_of ns) call old → Serves n (cs ++ call ∷ []) (os ++ old ∷ []) (ns ++ new ∷ [])
+  served_then n [] [] [] call old new no_call_left h =
+      let same : n + 0 ≡ n = omega arith in
+      one_call_more call [] old new [] [] (h ∙ (λ i. due m allowed t area rows texts (same i) call old)) no_call_left
+  served_then n [] [] (r ∷ ns) call old new s h = elim s [ ]
+  served_then n [] (o ∷ os) ns call old new s h = elim s [ ]
+  served_then n (c ∷ cs) [] ns call old new s h = elim s [ ]
+  served_then n (c ∷ cs) (o ∷ os) [] call old new s h = elim s [ ]
+  served_then n (c ∷ cs) (o ∷ os) (r ∷ ns) call old new (one_call_more _ _ _ _ _ _ e rest) h =
+      let same : n + (paths_by r.answered + paths_of ns) ≡ n + paths_by r.answered + paths_of ns = omega arith in
+      one_call_more c (cs ++ call ∷ []) o r (os ++ old ∷ []) (ns ++ new ∷ []) e
+      (served_then (n + paths_by r.answered) cs os ns call old new rest (h ∙ (λ i. due m allowed t area rows texts (same i) call old)))
+
+  -- the call at a place of a list, where those before it are served
+  pub served_to : (n : ℕ) (calls : List Call) (olds news : List Reply) (i : ℕ) (new : Reply) (c : Call) (d : Reply)
+      → i < length calls → i < length news → i < length olds → drop i news ≡ drop i olds
+      → Serves n (take i calls) (take i olds) (take i news)
+      → (new.answered, buffers_of new) ≡ due m allowed t area rows texts (n + paths_of (take i news)) (slice_index_or calls i c) (slice_index_or news i d)
+      → Serves n (take (i + 1) calls) (take (i + 1) olds) (take (i + 1) (slice_set news i new))
+  served_to n calls olds news i new c d h g f e s r =
+      let call = slice_index_or calls i c in
+      let old = slice_index_or news i d in
+      let one : take (i + 1) calls ≡ take i calls ++ call ∷ [] = take_more calls i c h in
+      let two : take (i + 1) olds ≡ take i olds ++ old ∷ [] = take_more olds i d f ∙ (λ j. take i olds ++ sym (first_waits olds news i d g f e) j ∷ []) in
+      let three : take (i + 1) (slice_set news i new) ≡ take i news ++ new ∷ [] = take_more_set news i new g in
+      transport (λ j. Serves n (sym one j) (sym two j) (sym three j)) (served_then n (take i calls) (take i olds) (take i news) call old new s r)
+
+module _ (area rows : ℕ) (texts : Text) {A : Type 0} (blank : A) where
+  memory_one : (cs : List Call) (os : List Reply) (call : Call) (old : Reply) (held : List A) → length cs ≡ length os
+      → memory_then area rows texts blank (cs ++ call ∷ []) (os ++ old ∷ []) held ≡ memory_by area rows texts blank call old (memory_then area rows texts blank cs os held)
+  memory_one [] [] call old held e = refl
+  memory_one [] (o ∷ os) call old held e = absurd (omega (arith, e))
+  memory_one (c ∷ cs) [] call old held e = absurd (omega (arith, e))
+  memory_one (c ∷ cs) (o ∷ os) call old held e = memory_one cs os call old (memory_by area rows texts blank c o held) (omega (arith, e))
+
+  pub memory_to : (calls : List Call) (olds news : List Reply) (i : ℕ) (c : Call) (d : Reply) (held now next : List A)
+      → i < length calls → i < length news → i < length olds → drop i news ≡ drop i olds
+      → now ≡ memory_then area rows texts blank (take i calls) (take i olds) held
+      → next ≡ memory_by area rows texts blank (slice_index_or calls i c) (slice_index_or news i d) now
+      → next ≡ memory_then area rows texts blank (take (i + 1) calls) (take (i + 1) olds) held
+  memory_to calls olds news i c d held now next h g f e a b =
+      let call = slice_index_or calls i c in
+      let old = slice_index_or news i d in
+      let one : take (i + 1) calls ≡ take i calls ++ call ∷ [] = take_more calls i c h in
+      let two : take (i + 1) olds ≡ take i olds ++ old ∷ [] = take_more olds i d f ∙ (λ j. take i olds ++ sym (first_waits olds news i d g f e) j ∷ []) in
+      b ∙ ap (memory_by area rows texts blank call old) a
+      ∙ sym (memory_one (take i calls) (take i olds) call old held (length-take-le i calls (omega (arith, h)) ∙ sym (length-take-le i olds (omega (arith, f)))))
+      ∙ (λ j. memory_then area rows texts blank (sym one j) (sym two j) held)
