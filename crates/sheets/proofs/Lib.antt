@@ -1,0 +1,3 @@
+pub mod Entering
+pub mod LineSteps
+pub mod Places

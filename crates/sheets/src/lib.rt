@@ -1,0 +1,11 @@
+// Sheets: what their lines say, and the rows that answer them.
+#![tactic(auto)]
+
+mod entry;
+mod reading;
+mod refusal;
+mod task;
+
+pub use reading::read;
+pub use refusal::Refusal;
+pub use task::Task;
