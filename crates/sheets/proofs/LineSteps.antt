@@ -1,8 +1,9 @@
 -- The first line of a sheet, and the lines behind it. Assumes nothing.
-use Rattle.std.proofs.Common.{◌≡◌, ℕ, zero, suc, ◌+◌, ◌≤◌, ◌<◌, Bool, true, false, cond, eqb, List, [], ◌∷◌, ◌++◌, length, take, drop, sym, refl, ap, ◌∙◌, append_assoc, arith}
+use Rattle.std.proofs.Common.{◌≡◌, ℕ, zero, suc, ◌+◌, ◌-◌, ◌≤◌, ◌<◌, Bool, true, false, cond, eqb, List, [], ◌∷◌, ◌++◌, length, take, drop, sym, refl, ap, ◌∙◌, append_assoc, arith}
 use Rattle.std.proofs.lemmas.List.{drop-drop, drop_at, length-append, length-drop, take-append-drop, take_min, length-take}
 use Rattle.texts.specs.Texts.{Text, empty, until}
 use Rattle.lines.specs.Sheets.{LINE_END, behind_line, line_of}
+use Rattle.sheets.specs.Reading.{State, after_line, after_lines}
 use Rattle.sheets.specs.SheetLines.{led_by, lines_of}
 
 -- a line that goes on behind its first byte
@@ -38,3 +39,29 @@ pub one_line_more : (front t : Text) → front ++ t ≡ (front ++ take (until LI
 one_line_more front t =
     let n = until LINE_END t + 1 in
     ap (λ (x : Text). front ++ x) (sym (take-append-drop n t)) ∙ sym (append_assoc front (take n t) (drop n t))
+
+-- where a line of a sheet begins, and what is left behind it
+module _ (sheet front rest line behind : Text) (sheet_is : sheet ≡ front ++ rest) (line_is : line ≡ line_of rest) (behind_is : behind ≡ behind_line rest) where
+  pub begins_at : length sheet - length rest ≡ length front
+  begins_at = omega (arith, ap length sheet_is, length-append front rest)
+
+  pub stands_there : line ≡ take (length line) (drop (length sheet - length rest) sheet)
+  stands_there =
+      line_is ∙ line_there front rest
+      ∙ (λ i. take (length (line_of rest)) (drop (sym begins_at i) (sym sheet_is i)))
+      ∙ ap (λ (l : Text). take (length l) (drop (length sheet - length rest) sheet)) (sym line_is)
+
+  pub within : length sheet - length rest + length line ≤ length sheet
+  within =
+      let n = until LINE_END rest in
+      omega (arith, begins_at, ap length sheet_is, length-append front rest, ap length line_is, length-take n rest)
+
+  pub line_left : sheet ≡ (front ++ take (until LINE_END rest + 1) rest) ++ behind
+  line_left = sheet_is ∙ one_line_more front rest ∙ ap (λ (t : Text). (front ++ take (until LINE_END rest + 1) rest) ++ t) (sym behind_is)
+
+  -- the lines that are left are read on from there
+  pub reads_on : (s t : State) → empty rest ≡ false → t ≡ after_line s line → after_lines t (lines_of behind) ≡ after_lines s (lines_of rest)
+  reads_on s t more then =
+      ap (λ (x : State). after_lines x (lines_of behind)) then
+      ∙ (λ i. after_lines (after_line s (line_is i)) (lines_of (behind_is i)))
+      ∙ ap (after_lines s) (sym (first_apart rest more))
