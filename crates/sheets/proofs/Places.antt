@@ -7,8 +7,8 @@ use Rattle.texts.specs.Texts.{Text}
 use Rattle.lines.specs.declared.Head.{Head}
 use Rattle.lines.specs.declared.Refusal.TheVariants.{BadLine}
 use Rattle.lines.specs.Sheets.{Content, content_behind, content_of, head_of}
-use Rattle.resolver.specs.declared.Call.TheVariants.{Resolve}
-use Rattle.sheets.specs.Tasks.{asked_by, call_in, letting_go, resolve}
+use Rattle.sheets.specs.declared.task.Task.TheVariants.{Resolve}
+use Rattle.sheets.specs.Tasks.{asked_by, task_in, letting_go, resolve}
 
 -- a line is as long as its head and its texts
 pub content_long : (line : Text) (c : Content) → content_of line ≡ Some c → length line ≡ 12 + (length c.first + length c.second)
@@ -60,9 +60,9 @@ module _ (sheet line first second : Text) (start : ℕ) (whole : line ≡ take 1
 
 -- a line that resolves a request, by the places of its texts
 pub resolve_there : (sheet line : Text) (c : Content) (start : ℕ) → content_of line ≡ Some c → c.kind ≡ 40 → line ≡ take 12 line ++ (c.first ++ c.second) → line ≡ take (length line) (drop start sheet)
-    → Some (call_in sheet (Resolve (record { start = start + 12; len = length c.first }) (record { start = start + 12 + length c.first; len = length c.second }))) ≡ asked_by (content_of line)
+    → Some (task_in sheet (Resolve (record { start = start + 12; len = length c.first }) (record { start = start + 12 + length c.first; len = length c.second }))) ≡ asked_by (content_of line)
 resolve_there sheet line c start is kind whole here =
     let long = content_long line c is in
-    let texts : Some (call_in sheet (Resolve (record { start = start + 12; len = length c.first }) (record { start = start + 12 + length c.first; len = length c.second }))) ≡ Some (resolve c.first c.second) =
+    let texts : Some (task_in sheet (Resolve (record { start = start + 12; len = length c.first }) (record { start = start + 12 + length c.first; len = length c.second }))) ≡ Some (resolve c.first c.second) =
     (λ i. Some (resolve (first_there sheet line c.first c.second start whole long here i) (second_there sheet line c.first c.second start whole long here i))) in
     texts ∙ sym (ap asked_by is ∙ cond-true (eqb c.kind 40) (Some (resolve c.first c.second)) (cond (eqb c.kind 41) (Some (letting_go c.first c.second)) None) (eq-eqb c.kind 40 kind))

@@ -3,30 +3,22 @@ use Rattle.std.specs.Prelude.{Bool, true, false, cond, ◌&&◌, ◌==◌, Some,
 use Rattle.lines.specs.Sheets.{Content}
 use Rattle.texts.specs.Parts.{text_at}
 use Rattle.texts.specs.Texts.{Text, empty}
-use Rattle.resolver.specs.declared.Call.{Call}
-use Rattle.resolver.specs.declared.Call.TheVariants.{Forget, Resolve, Tally}
 use Rattle.sheets.specs.declared.refusal.Refusal.{Refusal}
 use Rattle.sheets.specs.declared.refusal.Refusal.TheVariants.{Texts}
 use Rattle.sheets.specs.declared.task.Task.{Task}
 use Rattle.sheets.specs.declared.task.Task.TheVariants as task
 
--- to tell a refusal, to resolve a request from a directory, to forget, or to tally
+-- to tell a refusal, to resolve a request from a directory, or to forget
 pub data Todo : Type 0 where
   tell : Refusal → Todo
   resolve : Text → Text → Todo
   forget : Todo
-  tally : Todo
 
--- what a call is, whose texts stand in a sheet
-abbrev pub call_in : Text → Call → Todo
-call_in sheet (Resolve directory request) = resolve (text_at sheet directory) (text_at sheet request)
-call_in sheet Forget = forget
-call_in sheet Tally = tally
-
--- what a task is
+-- what a task is, whose texts stand in a sheet
 abbrev pub task_in : Text → Task → Todo
 task_in sheet (task.Refused r) = tell r
-task_in sheet (task.Call call) = call_in sheet call
+task_in sheet (task.Resolve directory request) = resolve (text_at sheet directory) (text_at sheet request)
+task_in sheet task.Forget = forget
 
 -- what a line that lets go leaves to do: it has no text
 abbrev pub letting_go : Text → Text → Todo
@@ -42,4 +34,3 @@ abbrev pub closes : Todo → Bool
 closes (tell r) = false
 closes (resolve directory request) = true
 closes forget = true
-closes tally = true

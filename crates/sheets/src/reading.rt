@@ -3,18 +3,17 @@ ghost use Rattle.std.specs.Prelude.{◌≡◌, ◌+◌, ◌^◌, ◌<◌, ◌++�
 ghost use Rattle.std.specs.Option.{option_map};
 ghost use Rattle.lines.specs.Sheets.{content_of};
 ghost use Rattle.listing.specs.Entries.{rows};
-ghost use Rattle.resolver.specs.declared.Call.TheVariants as call;
 ghost use Rattle.settings.specs.Meant.{tables};
 ghost use Rattle.texts.specs.Texts.{Text};
+ghost use Rattle.sheets.specs.declared.task.Task.TheVariants as task;
 ghost use Rattle.sheets.specs.Reading.{State, after_entry, after_line, after_sheet, leaving};
-ghost use Rattle.sheets.specs.Tasks.{Todo, asked_by, letting_go, task_in};
+ghost use Rattle.sheets.specs.Tasks.{Todo, asked_by, closes, letting_go, task_in};
 
 use crate::entry::{refuse, take};
 use crate::refusal::Refusal;
 use crate::task::Task;
 use lines::{HEAD_LEN, Line, first_line};
 use listing::Listing;
-use resolver::Call;
 use settings::Settings;
 use std::alloc::{AllocError, Global};
 use texts::Place;
@@ -26,10 +25,10 @@ const RESOLVES: u16 = 40;
 // The kind of a line that lets go of what is only kept to answer faster.
 const FORGETS: u16 = 41;
 
-// The call in a line of a sheet that begins at `start`: its texts stand behind its head.
-fn resolve(line: Line, start: usize) -> Call
+// What a line that resolves a request leaves to do, where it begins at `start` in its sheet: its texts stand behind its head.
+fn resolve(line: Line, start: usize) -> Task
     requires within_memory { start + (12 + (length line.first.now + length line.second.now)) < 2 ^ 64 }
-    ensures both_texts_behind_the_head { result ≡ call.Resolve (record { start = start + 12; len = length line.entry.first.now }) (record { start = start + 12 + length line.entry.first.now; len = length line.entry.second.now }) }
+    ensures both_texts_behind_the_head { result ≡ task.Resolve (record { start = start + 12; len = length line.entry.first.now }) (record { start = start + 12 + length line.entry.first.now; len = length line.entry.second.now }) }
 {
     let directory = Place {
         start: start + HEAD_LEN,
@@ -39,7 +38,7 @@ fn resolve(line: Line, start: usize) -> Call
         start: directory.start + directory.len,
         len: line.second.len(),
     };
-    Call::Resolve { directory, request }
+    Task::Resolve { directory, request }
 }
 
 // What a line that lets go leaves to do; it has no text.
@@ -47,7 +46,7 @@ fn forget(line: Line) -> Task
     ensures forgets_or_refuses_texts { (sheet : Text) → task_in sheet result ≡ letting_go line.entry.first.now line.entry.second.now }
 {
     if line.first.is_empty() && line.second.is_empty() {
-        Task::Call(Call::Forget)
+        Task::Forget
     } else {
         Task::Refused(Refusal::Texts)
     }
@@ -62,9 +61,20 @@ fn asked(line: &[u8], start: usize) -> Option<Task>
         return None;
     };
     match content.kind {
-        RESOLVES => Some(Task::Call(resolve(content, start))),
+        RESOLVES => Some(resolve(content, start)),
         FORGETS => Some(forget(content)),
         _ => None,
+    }
+}
+
+// Whether a task is a call, which closes the tables.
+fn is_call(task: Task) -> bool
+    ensures closes_the_tables { (sheet : Text) → result ≡ closes (task_in sheet task) }
+{
+    match task {
+        Task::Refused(_) => false,
+        Task::Resolve { .. } => true,
+        Task::Forget => true,
     }
 }
 
@@ -100,9 +110,7 @@ fn read_line(
     let Some(task) = asked(line, start) else {
         return enter(listing, settings, *is_closed, line);
     };
-    if let Task::Call(_) = task {
-        *is_closed = true;
-    }
+    *is_closed = *is_closed || is_call(task);
     Some(task)
 }
 

@@ -1,12 +1,14 @@
 // What the lines of a sheet leave to do.
 use crate::refusal::Refusal;
-use resolver::Call;
+use texts::Place;
 
-/// What a line of a sheet leaves to do.
+/// What a line of a sheet leaves to do; texts are told by their places in the sheet.
 #[derive(Clone, Copy, PartialEq, Eq, Debug)]
 pub enum Task {
-    /// A row tells why the line is refused.
+    /// To tell why the line is refused.
     Refused(Refusal),
-    /// A call is made; its texts stand in the sheet.
-    Call(Call),
+    /// To resolve a request from a directory.
+    Resolve { directory: Place, request: Place },
+    /// To let go of what is only kept to answer faster.
+    Forget,
 }

@@ -1,7 +1,7 @@
 use Rattle.std.proofs.Common.{◌≡◌, Option, Some, ap, ◌∙◌, arith}
 use Rattle.lines.specs.Sheets.{said}
-use Rattle.resolver.specs.declared.Call.{Call}
-use Rattle.sheets.specs.Tasks.{call_in}
+use Rattle.sheets.specs.declared.task.Task.{Task}
+use Rattle.sheets.specs.Tasks.{task_in}
 use Rattle.sheets.proofs.Places.{content_long, content_read, resolve_there}
 use Rattle.sheets.proofs.reading.asked.Goals as goal
 
@@ -14,6 +14,6 @@ pub returns-in-40 : goal.returns-in-40
 returns-in-40 c =
     record {
       asked_by_the_line = λ sheet h.
-          ap (λ (k : Call). Some (call_in sheet k)) c.resolve.ensures.both_texts_behind_the_head
+          ap (λ (k : Task). Some (task_in sheet k)) c.resolve.ensures.both_texts_behind_the_head
           ∙ resolve_there sheet c.args.line.now (said c.in-Ok.content) c.args.start (content_read _ _ c.in-Ok.ensures.reads_the_line) c.in-40.is c.in-Ok.ensures.nothing_but_head_and_texts h;
     }

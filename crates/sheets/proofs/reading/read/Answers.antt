@@ -7,7 +7,7 @@ use Rattle.settings.specs.Meant.{tables}
 use Rattle.texts.specs.Texts.{Text, until}
 use Rattle.sheets.specs.Reading.{State, leaving}
 use Rattle.sheets.specs.Tasks.{Todo, task_in}
-use Rattle.sheets.proofs.LineSteps.{line_left, reads_on, some_left, stands_there}
+use Rattle.sheets.proofs.LineSteps.{line_left, reads_on, stands_there}
 use Rattle.sheets.proofs.reading.read.Goals as goal
 
 abbrev with_todo : State → List Todo → State
