@@ -1,3 +1,4 @@
 pub mod Entering
 pub mod LineSteps
 pub mod Places
+pub mod RowSteps

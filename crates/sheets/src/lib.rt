@@ -4,6 +4,7 @@
 mod entry;
 mod reading;
 mod refusal;
+mod row;
 mod task;
 
 pub use reading::read;

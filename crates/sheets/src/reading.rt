@@ -121,7 +121,9 @@ pub fn read(
     settings: &mut Settings,
     sheet: &[u8],
 ) -> Result<Vec<Task>, AllocError>
-    ensures line_after_line { IfOk result (λ tasks. (closed : Bool) × (record { rows = rows listing.new; tables = tables settings.new; closed = closed; todo = map (task_in sheet.now) tasks.items } ≡ after_sheet (rows listing.old) (tables settings.old) sheet.now)) }
+    ensures listing_filled_line_after_line { IfOk result (λ _. rows listing.new ≡ (after_sheet (rows listing.old) (tables settings.old) sheet.now).rows) }
+    ensures settings_filled_line_after_line { IfOk result (λ _. tables settings.new ≡ (after_sheet (rows listing.old) (tables settings.old) sheet.now).tables) }
+    ensures all_else_left_to_do { IfOk result (λ tasks. map (task_in sheet.now) tasks.items ≡ (after_sheet (rows listing.old) (tables settings.old) sheet.now).todo) }
 {
     let mut tasks = Vec::new(alloc);
     let mut is_closed = false;
