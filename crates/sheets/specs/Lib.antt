@@ -5,3 +5,4 @@ pub mod Replies
 pub mod Rows
 pub mod SheetLines
 pub mod Tasks
+pub mod Waiting

@@ -1,5 +1,5 @@
 -- The row of a reply, told by its answer and its buffers. Assumes nothing.
-use Rattle.std.specs.Prelude.{◌≤◌, ℕ, List, [], take, Some, None, Ok, Err, Option, Result}
+use Rattle.std.specs.Prelude.{◌≤◌, ℕ, List, [], ◌∷◌, take, Some, None, Ok, Err, Option, Result}
 use Rattle.texts.specs.Texts.{Text}
 use Rattle.lookup.specs.declared.resolution.Found.{Found}
 use Rattle.lookup.specs.declared.resolution.Refused.{Refused}
@@ -38,3 +38,8 @@ FewRounds Unserved = Unit {0}
 FewRounds (Resolved a) = a.rounds ≤ 999
 FewRounds Forgotten = Unit {0}
 FewRounds (Counted n) = Unit {0}
+
+-- and so do those of all replies
+abbrev pub AllFew : List Reply → Type 0
+AllFew [] = Unit {0}
+AllFew (reply ∷ more) = FewRounds reply.answered × AllFew more

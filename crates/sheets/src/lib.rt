@@ -1,12 +1,15 @@
 // Sheets: what their lines say, and the rows that answer them.
 #![tactic(auto)]
 
+mod answering;
 mod entry;
 mod reading;
 mod refusal;
 mod row;
 mod task;
+mod work;
 
+pub use answering::answer;
 pub use reading::read;
 pub use refusal::Refusal;
 pub use task::Task;
