@@ -2,3 +2,4 @@ pub mod Entering
 pub mod LineSteps
 pub mod Places
 pub mod RowSteps
+pub mod Serving

@@ -10,17 +10,12 @@ ghost use Rattle.sheets.specs.Waiting.{call_row, call_rows, reply_rows, rows_the
 use crate::refusal::Refusal;
 use crate::row::{push_refusal, push_reply};
 use crate::task::Task;
-use crate::work::{BATCH, Lent, Work};
+use crate::work::{AREA, BATCH, Lent, ROWS, Work};
 use lookup::OpenCall;
 use resolver::{Call, Reply, Resolver};
 use stack::ArrayVec;
 use std::alloc::{AllocError, Global};
 use tree::{FileTree, Host, Policy};
-
-// What a call is lent: bytes of the text area, and rows.
-const AREA: usize = 131_072;
-
-const ROWS: usize = 1024;
 
 // The rows of replies, behind what was written before.
 fn push_replies(rows: &mut Vec<u8>, replies: &[Reply]) -> Result<(), AllocError>
@@ -34,12 +29,12 @@ fn push_replies(rows: &mut Vec<u8>, replies: &[Reply]) -> Result<(), AllocError>
 }
 
 impl Lent {
-    fn new(alloc: Global) -> Result<Lent, AllocError> {
-        Ok(Lent {
-            area: vec![in alloc; 0; AREA]?,
-            rows: vec![in alloc; OpenCall::blank(); ROWS]?,
-            replies: vec![in alloc; Reply::blank(); BATCH]?,
-        })
+    fn new() -> Lent {
+        Lent {
+            area: [0; AREA],
+            rows: [OpenCall::blank(); ROWS],
+            replies: [Reply::blank(); BATCH],
+        }
     }
 
     // Serves as many calls as there are replies, and writes their rows behind what was written before.
@@ -70,14 +65,16 @@ impl Lent {
 }
 
 impl Work {
-    fn new(alloc: Global) -> Result<Work, AllocError>
-        ensures nothing_yet { IfOk result (λ work. (work.rows.items ≡ []) × (held work.waiting ≡ [])) }
+    // No row, and no call that waits.
+    fn new(alloc: Global) -> Work
+        ensures no_row { result.rows.items ≡ [] }
+        ensures no_call_waits { held result.waiting ≡ [] }
     {
-        Ok(Work {
+        Work {
             rows: Vec::new(alloc),
             waiting: ArrayVec::new(Call::Forget),
-            lent: Lent::new(alloc)?,
-        })
+            lent: Lent::new(),
+        }
     }
 
     // Serves the calls that wait, and writes their rows.
@@ -189,7 +186,7 @@ pub fn answer<H: Host, P: Policy>(
     ensures same_meaning { H.FileTree.meaning resolver.new.host ≡ H.FileTree.meaning resolver.old.host }
     ensures still_sound { H.FileTree.sound resolver.new.host }
 {
-    let mut work = Work::new(alloc)?;
+    let mut work = Work::new(alloc);
     for task in tasks {
         work.carry_out(resolver, sheet, *task)?;
     }
