@@ -3,3 +3,4 @@ pub mod LineSteps
 pub mod Places
 pub mod RowSteps
 pub mod Serving
+pub mod Wholes

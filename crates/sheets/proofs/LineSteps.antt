@@ -1,6 +1,6 @@
 -- The first line of a sheet, and the lines behind it. Assumes nothing.
-use Rattle.std.proofs.Common.{◌≡◌, ℕ, zero, suc, ◌+◌, ◌-◌, ◌≤◌, ◌<◌, Bool, true, false, cond, eqb, List, [], ◌∷◌, ◌++◌, length, take, drop, sym, refl, ap, ◌∙◌, append_assoc, arith}
-use Rattle.std.proofs.lemmas.List.{drop-drop, drop_at, length-append, length-drop, take-append-drop, take_min, length-take}
+use Rattle.std.proofs.Common.{◌≡◌, ℕ, suc, ◌+◌, ◌-◌, ◌≤◌, ◌<◌, Bool, true, false, cond, eqb, [], ◌∷◌, ◌++◌, length, take, drop, sym, refl, ap, ◌∙◌, append_assoc, arith}
+use Rattle.std.proofs.lemmas.List.{drop_at, length-append, length-drop, take-append-drop, take_min, length-take}
 use Rattle.texts.specs.Texts.{Text, empty, until}
 use Rattle.lines.specs.Sheets.{LINE_END, behind_line, line_of}
 use Rattle.sheets.specs.Reading.{State, after_line, after_lines}

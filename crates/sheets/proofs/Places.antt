@@ -1,8 +1,8 @@
 -- Where the texts of a line stand in its sheet. Assumes nothing.
-use Rattle.std.proofs.Common.{◌≡◌, ℕ, ◌+◌, ◌≤◌, Bool, true, false, cond, eqb, List, ◌++◌, length, take, drop, Some, None, Option, Ok, sym, refl, ap, ◌∙◌, append_assoc, eq-eqb, arith}
+use Rattle.std.proofs.Common.{◌≡◌, ℕ, ◌+◌, Bool, true, false, cond, eqb, ◌++◌, length, take, drop, Some, None, Option, Ok, sym, refl, ap, ◌∙◌, append_assoc, eq-eqb, arith}
 use Rattle.std.specs.Option.{ok_or}
 use Rattle.std.proofs.lemmas.Bool.{cond-true, eqb-true}
-use Rattle.std.proofs.lemmas.List.{drop-drop, drop_at, length-drop, length-take, length-take-le, take-append-drop, take_at}
+use Rattle.std.proofs.lemmas.List.{drop-drop, drop_at, length-drop, length-take-le, take-append-drop, take_at}
 use Rattle.texts.specs.Texts.{Text}
 use Rattle.lines.specs.declared.Head.{Head}
 use Rattle.lines.specs.declared.Refusal.TheVariants.{BadLine}

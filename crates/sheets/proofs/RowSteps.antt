@@ -1,8 +1,8 @@
 -- The columns of a row have room for its numbers. Assumes nothing.
-use Rattle.std.proofs.Common.{◌≡◌, ℕ, ◌≤◌, Bool, true, ◌&&◌, List, [], ◌∷◌, Some, Option, refl, ap, ◌∙◌, leb}
+use Rattle.std.proofs.Common.{◌≡◌, ℕ, ◌≤◌, Bool, true, [], ◌∷◌, Some, refl, ap}
 use Rattle.std.specs.Bool.{then_some}
 use Rattle.std.proofs.lemmas.Bool.{and_from, le-leb}
-use Rattle.lines.specs.Columns.{columns, has_room, have_room, written}
+use Rattle.lines.specs.Columns.{columns, have_room, written}
 
 five_fit : (a b c d e : ℕ) → a ≤ 999 → b ≤ 999 → c ≤ 999 → d ≤ 999 → e ≤ 999 → have_room (a ∷ b ∷ c ∷ d ∷ e ∷ []) ≡ true
 unfolding have_room

@@ -1,5 +1,5 @@
 -- What a whole sheet leaves: the tables that its entries filled, and what its other lines leave to do. Assumes nothing.
-use Rattle.std.specs.Prelude.{Bool, true, false, cond, ◌||◌, List, [], ◌∷◌, ◌++◌, Some, None, Option}
+use Rattle.std.specs.Prelude.{Bool, true, false, ◌||◌, List, [], ◌∷◌, ◌++◌, Some, None, Option}
 use Rattle.std.specs.Option.{option_map}
 use Rattle.texts.specs.Texts.{Text}
 use Rattle.lines.specs.Sheets.{content_of}

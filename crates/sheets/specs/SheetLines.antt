@@ -1,5 +1,5 @@
 -- The lines of a sheet. Assumes nothing.
-use Rattle.std.specs.Prelude.{ℕ, Bool, true, false, cond, ◌==◌, List, [], ◌∷◌}
+use Rattle.std.specs.Prelude.{ℕ, cond, ◌==◌, List, [], ◌∷◌}
 use Rattle.texts.specs.Texts.{Text}
 use Rattle.lines.specs.Sheets.{LINE_END}
 

@@ -7,9 +7,11 @@ mod reading;
 mod refusal;
 mod row;
 mod task;
+mod whole;
 mod work;
 
 pub use answering::answer;
 pub use reading::read;
 pub use refusal::Refusal;
 pub use task::Task;
+pub use whole::answer_sheet;

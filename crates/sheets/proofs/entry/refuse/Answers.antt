@@ -1,4 +1,4 @@
-use Rattle.std.proofs.Common.{◌≡◌, sym, ◌∙◌}
+use Rattle.std.proofs.Common.{sym, ◌∙◌}
 use Rattle.sheets.proofs.Entering.{closed_if_full, closed_if_taken, told_if_not_full}
 use Rattle.sheets.proofs.entry.refuse.Goals as goal
 

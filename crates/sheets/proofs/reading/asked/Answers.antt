@@ -1,4 +1,4 @@
-use Rattle.std.proofs.Common.{◌≡◌, Option, Some, ap, ◌∙◌, arith}
+use Rattle.std.proofs.Common.{Some, ap, ◌∙◌, arith}
 use Rattle.lines.specs.Sheets.{said}
 use Rattle.sheets.specs.declared.task.Task.{Task}
 use Rattle.sheets.specs.Tasks.{task_in}

@@ -1,11 +1,10 @@
-use Rattle.std.proofs.Common.{◌≡◌, ◌+◌, ◌∷◌, ◌++◌, [], List, length, map, take, Some, Option, sym, ap, ◌∙◌, rules}
+use Rattle.std.proofs.Common.{◌≡◌, ◌+◌, ◌∷◌, ◌++◌, [], List, map, take, sym, ap, ◌∙◌, rules}
 use Rattle.std.proofs.lemmas.List.{append-nil, map_push}
-use Rattle.std.specs.Option.{option_map}
 use Rattle.listing.specs.Entries.{rows}
 use Rattle.lines.specs.Sheets.{LINE_END}
 use Rattle.settings.specs.Meant.{tables}
-use Rattle.texts.specs.Texts.{Text, until}
-use Rattle.sheets.specs.Reading.{State, leaving}
+use Rattle.texts.specs.Texts.{until}
+use Rattle.sheets.specs.Reading.{State}
 use Rattle.sheets.specs.Tasks.{Todo, task_in}
 use Rattle.sheets.proofs.LineSteps.{line_left, reads_on, stands_there}
 use Rattle.sheets.proofs.reading.read.Goals as goal

@@ -1,4 +1,4 @@
-use Rattle.std.proofs.Common.{◌≡◌, Option, ap, ◌∙◌}
+use Rattle.std.proofs.Common.{Option, ap, ◌∙◌}
 use Rattle.listing.specs.Entries.{rows}
 use Rattle.settings.specs.Meant.{tables}
 use Rattle.sheets.specs.Reading.{State, after_asked}

@@ -1,5 +1,5 @@
-use Rattle.std.proofs.Common.{◌≡◌, ℕ, [], ◌∷◌, ◌++◌, OnOk, List, Some, length, sym, ap, ◌∙◌, rules, arith}
-use Rattle.lines.specs.Columns.{columns, written}
+use Rattle.std.proofs.Common.{◌≡◌, ℕ, [], ◌∷◌, Some, length, sym, ap, ◌∙◌, rules, arith}
+use Rattle.lines.specs.Columns.{columns}
 use Rattle.sheets.proofs.RowSteps.{five_written}
 use Rattle.sheets.proofs.row.push_columns.Goals as goal
 

@@ -1,4 +1,4 @@
-use Rattle.std.proofs.Common.{◌≡◌, ◌++◌, OnOk, length, min, subst, sym, take, arith}
+use Rattle.std.proofs.Common.{◌≡◌, ◌++◌, OnOk, length, min, subst, arith}
 use Rattle.settings.specs.Meant.{tables}
 use Rattle.resolver.specs.Runs.{ceiling}
 use Rattle.texts.specs.Texts.{Text}
