@@ -1,2 +1,4 @@
 pub mod Cases
 pub mod Lists
+pub mod Scores
+pub mod Verdicts

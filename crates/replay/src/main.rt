@@ -2,9 +2,12 @@
 #![tactic(auto)]
 
 mod case;
+mod comparison;
 mod group;
 mod header;
+mod score;
 mod split;
+mod verdict;
 
 use anyhow::bail;
 use case::cases;

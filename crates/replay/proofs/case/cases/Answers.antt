@@ -1,15 +1,11 @@
-use Rattle.std.proofs.Common.{◌≡◌, length, map, option_map, Bool, true, false, List, [], ◌∷◌, ◌++◌, ◌==◌, Some, ap, sym, ◌∙◌, arith}
+use Rattle.std.proofs.Common.{◌≡◌, map, option_map, true, false, List, [], ◌∷◌, ◌++◌, Some, ap, sym, ◌∙◌}
 use Rattle.std.proofs.lemmas.List.{append-nil, map-append}
-use Rattle.std.proofs.lemmas.Bool.Decides.{nat_tests}
-use Rattle.texts.specs.Texts.{Text, empty}
+use Rattle.texts.specs.Texts.{empty}
 use Rattle.replay.specs.Cases.{stored}
 use Rattle.replay.specs.Lists.{Front, Stored, cases_of}
 use Rattle.replay.proofs.Listed.{no_case, no_case_left, one_behind, one_case}
+use Rattle.replay.proofs.Rows.{empty_by_length}
 use Rattle.replay.proofs.case.cases.Goals as goal
-
-empty_by_length : (t : Text) (b : Bool) → b ≡ (length t == 0) → empty t ≡ b
-empty_by_length [] b h = sym h
-empty_by_length (x ∷ t) b h = let no : (length (x ∷ t) == 0) ≡ false = grind (arith, nat_tests) in sym no ∙ sym h
 
 pub returns-in_default : goal.returns-in_default
 returns-in_default c =
