@@ -1,4 +1,5 @@
 pub mod Cases
 pub mod Lists
 pub mod Scores
+pub mod Summaries
 pub mod Verdicts

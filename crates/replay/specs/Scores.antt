@@ -1,5 +1,5 @@
 -- How many sheets and rows agree. Assumes nothing.
-use Rattle.std.specs.Prelude.{ℕ, ◌+◌, ◌-◌, ◌^◌, min, List}
+use Rattle.std.specs.Prelude.{ℕ, ◌+◌, ◌-◌, ◌^◌, min, Bool, ◌&&◌, ◌==◌, List}
 use Rattle.std.specs.List.{fold}
 use Rattle.replay.specs.declared.group.Group.{Group}
 use Rattle.replay.specs.declared.group.Group.TheVariants.{Sample, Corner, Chosen}
@@ -40,3 +40,11 @@ no_scores = record { samples = no_score; corners = no_score; chosen = no_score }
 -- the scores of all sheets
 abbrev pub scores_of : List Judged → Scores
 scores_of vs = fold counted no_scores vs
+
+-- every sheet of a score agrees
+abbrev pub agrees_whole : Score → Bool
+agrees_whole s = s.agreeing == s.sheets
+
+-- every sheet of every group agrees
+abbrev pub all_agree : Scores → Bool
+all_agree s = agrees_whole s.samples && (agrees_whole s.corners && agrees_whole s.chosen)

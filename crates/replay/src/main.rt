@@ -7,6 +7,7 @@ mod group;
 mod header;
 mod score;
 mod split;
+mod summary;
 mod verdict;
 
 use anyhow::bail;

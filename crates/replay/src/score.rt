@@ -1,7 +1,7 @@
 // How many sheets and rows agree.
 ghost use Rattle.std.specs.Prelude.{◌≡◌, map};
 ghost use Rattle.replay.specs.Cases.{judged};
-ghost use Rattle.replay.specs.Scores.{counted, no_score, no_scores, scored, scores_of};
+ghost use Rattle.replay.specs.Scores.{agrees_whole, all_agree, counted, no_score, no_scores, scored, scores_of};
 
 use crate::group::Group;
 use crate::verdict::Verdict;
@@ -25,6 +25,12 @@ impl Score {
             rows: 0,
             same_rows: 0,
         }
+    }
+
+    fn agrees(self) -> bool
+        ensures as_many_agree_as_there_are { result ≡ agrees_whole self }
+    {
+        self.agreeing == self.sheets
     }
 
     // This score and one sheet more.
@@ -81,5 +87,12 @@ impl Scores {
             scores = scores.with(verdict);
         }
         scores
+    }
+
+    /// Whether every sheet agrees.
+    pub fn all_agree(&self) -> bool
+        ensures every_sheet_of_every_group_agrees { result ≡ all_agree self.now }
+    {
+        self.samples.agrees() && self.corners.agrees() && self.chosen.agrees()
     }
 }
