@@ -1,5 +1,7 @@
+pub mod Answered
 pub mod Cases
 pub mod Lists
+pub mod Replayed
 pub mod Scores
 pub mod Summaries
 pub mod Verdicts
