@@ -2,3 +2,4 @@ pub mod Heads
 pub mod Lines
 pub mod Listed
 pub mod Rows
+pub mod Scoring

@@ -1,5 +1,6 @@
 // How many sheets and rows agree.
 ghost use Rattle.std.specs.Prelude.{◌≡◌, map};
+ghost use Rattle.std.specs.List.{list_all};
 ghost use Rattle.replay.specs.Cases.{judged};
 ghost use Rattle.replay.specs.Scores.{agrees_whole, all_agree, counted, no_score, no_scores, scored, scores_of};
 
@@ -81,6 +82,7 @@ impl Scores {
     /// The scores of all sheets.
     pub fn of(verdicts: &[Verdict]) -> Scores
         ensures counts_every_sheet { result ≡ scores_of (map judged verdicts.now) }
+        ensures all_agree_exactly_if_each_sheet_does { all_agree result ≡ list_all (λ v. v.agrees) (map judged verdicts.now) }
     {
         let mut scores = Scores::new();
         for verdict in verdicts {
