@@ -1,4 +1,3 @@
-pub mod Answered
 pub mod Cases
 pub mod Lists
 pub mod Replayed

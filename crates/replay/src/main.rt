@@ -1,7 +1,6 @@
 // Gives the stored sheets to the port and compares its rows with those of the original, byte for byte.
 #![tactic(auto)]
 
-mod answers;
 mod case;
 mod comparison;
 mod group;

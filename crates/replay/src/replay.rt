@@ -3,9 +3,9 @@ ghost use Rattle.std.specs.Prelude.{◌≡◌, IfOk, map};
 ghost use Rattle.replay.specs.Cases.{judged, stored};
 ghost use Rattle.replay.specs.Replayed.{replayed};
 
-use crate::answers::answers;
 use crate::case::Case;
 use crate::verdict::Verdict;
+use sheets::answer_sheet;
 use std::alloc::{AllocError, Global};
 
 /// Each stored sheet beside what the port writes for it.
@@ -14,7 +14,7 @@ pub fn replay<'a>(alloc: Global, cases: &[Case<'a>]) -> Result<Vec<Verdict<'a>>,
 {
     let mut verdicts = Vec::new(alloc);
     for case in cases {
-        let answered = answers(alloc, case.sheet)?;
+        let answered = answer_sheet(alloc, case.sheet)?;
         verdicts.push(Verdict::of(*case, answered.as_slice()))?;
     }
     Ok(verdicts)
