@@ -1,14 +1,14 @@
 -- A list of calls that is served one call further. Assumes nothing.
-use Rattle.std.proofs.Common.{◌≡◌, ◌<◌, ℕ, ◌+◌, List, [], ◌∷◌, ◌++◌, length, take, drop, slice_index_or, slice_set, sym, refl, ap, ◌∙◌, arith}
+use Rattle.std.proofs.Common.{subst, ◌≡◌, ◌<◌, ℕ, ◌+◌, List, [], ◌∷◌, ◌++◌, length, take, drop, slice_index_or, slice_set, sym, refl, ap, ◌∙◌, arith}
 use Rattle.std.proofs.lemmas.List.{drop-set-lt, drop_more, length-take-le, take_more, take_more_set}
 use Rattle.std.proofs.Math.Path.{transport}
 use Rattle.texts.specs.Texts.{Text}
 use Rattle.tree.specs.Acceptances.{Allowed}
-use Rattle.tree.specs.Meanings.{Meaning}
+use Rattle.tree.specs.Meanings.{Meaning, Question}
 use Rattle.settings.specs.Tables.{Tables}
 use Rattle.resolver.specs.declared.Call.{Call}
 use Rattle.resolver.specs.declared.Reply.{Reply}
-use Rattle.resolver.specs.Served.{Served, buffers_of, due, memory_by, memory_then, no_call_left, one_call_more, paths_by, paths_of}
+use Rattle.resolver.specs.Served.{Moves, MovesOn, Served, buffers_of, due, memory_by, memory_then, moves_on, no_call_left, one_call_more, paths_by, paths_of, stays}
 
 pub paths_then : (news : List Reply) (new : Reply) → paths_of (news ++ new ∷ []) ≡ paths_of news + paths_by new.answered
 paths_then [] new = omega arith
@@ -79,3 +79,12 @@ module _ (area rows : ℕ) (texts : Text) {A : Type 0} (blank : A) where
       b ∙ ap (memory_by area rows texts blank call old) a
       ∙ sym (memory_one (take i calls) (take i olds) call old held (length-take-le i calls (omega (arith, h)) ∙ sym (length-take-le i olds (omega (arith, f)))))
       ∙ (λ j. memory_then area rows texts blank (sym one j) (sym two j) held)
+
+module _ {Host : Type 0} (steps : Host → Question → Host → Type 0) where
+  moved_then : (cs : List Call) (call : Call) (before between after : Host) → MovesOn steps cs before between → Moves steps call between after → MovesOn steps (cs ++ call ∷ []) before after
+  moved_then [] call before between after stays h = moves_on call [] h stays
+  moved_then (c ∷ cs) call before between after (moves_on _ _ first rest) h = moves_on c (cs ++ call ∷ []) first (moved_then cs call _ between after rest h)
+
+  pub moved_to : (calls : List Call) (i : ℕ) (c : Call) (before between after : Host) → i < length calls → MovesOn steps (take i calls) before between → Moves steps (slice_index_or calls i c) between after → MovesOn steps (take (i + 1) calls) before after
+  moved_to calls i c before between after h m one =
+      subst (λ (cs : List Call). MovesOn steps cs before after) (sym (take_more calls i c h)) (moved_then (take i calls) (slice_index_or calls i c) before between after m one)

@@ -3,7 +3,8 @@ use Rattle.std.specs.Prelude.{◌≡◌, ℕ, ◌+◌, List, [], ◌∷◌, leng
 use Rattle.texts.specs.Texts.{Text}
 use Rattle.texts.specs.Parts.{text_at}
 use Rattle.tree.specs.Acceptances.{Allowed}
-use Rattle.tree.specs.Meanings.{Meaning}
+use Rattle.texts.specs.declared.place.Place.{Place}
+use Rattle.tree.specs.Meanings.{Meaning, Question, forgetting}
 use Rattle.settings.specs.Tables.{Tables}
 use Rattle.lookup.specs.Outcomes.{Room, answer, buffers_after, memory_after, refusal}
 use Rattle.lookup.specs.Resolutions.{resolution_of}
@@ -60,3 +61,14 @@ module _ (area rows : ℕ) (texts : Text) where
   memory_then blank [] olds held = held
   memory_then blank (call ∷ calls) [] held = held
   memory_then blank (call ∷ calls) (old ∷ olds) held = memory_then blank calls olds (memory_by blank call old held)
+
+-- how calls move the host: a forget is handed on to it, a tally leaves it as it is, and a resolve may ask it
+module _ {Host : Type 0} (steps : Host → Question → Host → Type 0) where
+  pub data Moves : Call → Host → Host → Type 0 where
+    may_ask : {before after : Host} (dir r : Place) → Moves (Resolve dir r) before after
+    told_to_forget : {before after : Host} → steps before forgetting after → Moves Forget before after
+    left_alone : {host : Host} → Moves Tally host host
+
+  pub data MovesOn : List Call → Host → Host → Type 0 where
+    stays : {host : Host} → MovesOn [] host host
+    moves_on : {before between after : Host} (call : Call) (calls : List Call) → Moves call before between → MovesOn calls between after → MovesOn (call ∷ calls) before after

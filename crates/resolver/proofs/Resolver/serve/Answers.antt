@@ -8,8 +8,8 @@ use Rattle.resolver.specs.declared.Call.{Call}
 use Rattle.resolver.specs.declared.Call.TheVariants.{Resolve}
 use Rattle.resolver.specs.declared.Reply.{Reply}
 use Rattle.resolver.specs.Runs.{ceiling}
-use Rattle.resolver.specs.Served.{buffers_of, due, memory_by, no_call_left, paths_of}
-use Rattle.resolver.proofs.Served.{memory_to, others_wait, paths_then, served_to}
+use Rattle.resolver.specs.Served.{stays, buffers_of, due, memory_by, no_call_left, paths_of}
+use Rattle.resolver.proofs.Served.{memory_to, moved_to, others_wait, paths_then, served_to}
 use Rattle.resolver.proofs.Resolver.serve.Goals as goal
 
 pub loop-i-init : goal.loop-i-init
@@ -18,6 +18,7 @@ loop-i-init g c = record {
   same_meaning = refl;
   same_settings = refl;
   same_policy = refl;
+  moved_so_far = stays;
   as_many_bytes = refl;
   as_many_rows = refl;
   served_so_far = λ n h. no_call_left;
@@ -52,6 +53,7 @@ loop-i-preserved g c =
       same_meaning = one.same_meaning ∙ before.same_meaning;
       same_settings = one.settings_and_policy_stay.0 ∙ before.same_settings;
       same_policy = one.settings_and_policy_stay.1 ∙ before.same_policy;
+      moved_so_far = moved_to g.H.FileTree.steps calls i no_call s.host c.loop-i.self.host c.serve_one.new.self.host called before.moved_so_far one.host_is_told;
       as_many_bytes = omega (arith, c.serve_one.auto.area, before.as_many_bytes);
       as_many_rows = omega (arith, c.serve_one.auto.rows, before.as_many_rows);
       served_so_far = λ n h.
