@@ -1,7 +1,5 @@
-use Rattle.std.proofs.Common.{ap, sym}
+use Rattle.std.proofs.Common.{sym}
 use Rattle.std.proofs.Math.Path.{transport}
-use Rattle.resolver.specs.declared.Call.TheVariants.{Forget, Resolve, Tally}
-use Rattle.resolver.specs.declared.Resolver.{Resolver}
 use Rattle.resolver.specs.Served.{Moves, left_alone, may_ask, told_to_forget}
 use Rattle.resolver.proofs.Resolver.serve_one.Goals.{in-Forget, in-Resolve, in-Tally}
 use Rattle.resolver.proofs.Resolver.serve_one.Goals as goal
