@@ -1,5 +1,5 @@
 -- A line that is offered: what is returned, and the rows then. Assumes nothing.
-use Rattle.std.proofs.Common.{◌≡◌, ℕ, ◌+◌, ◌≤◌, Bool, true, false, cond, not, leb, ltb, List, [], ◌∷◌, ◌++◌, map, length, Some, None, Option, Ok, Err, sym, refl, ap, ◌∙◌, arith}
+use Rattle.std.proofs.Common.{◌≡◌, ℕ, ◌+◌, ◌<◌, ◌≤◌, Bool, true, false, cond, not, leb, ltb, List, [], ◌∷◌, ◌++◌, map, length, Some, None, Option, Ok, Err, sym, refl, ap, ◌∙◌, arith}
 use Rattle.std.specs.Option.{ok_or}
 use Rattle.std.proofs.lemmas.List.{length-map, map_push}
 use Rattle.std.proofs.lemmas.Bool.{and_from, and_parts, cond-true, cond-false, le-leb, lt-leb, ltb-true, ltb-false, not-false}
@@ -77,6 +77,13 @@ module _ (rs : List Row) (n : ℕ) (k : LineKind) (a b : Text) (kind : Ok k ≡ 
 
     pub short_texts : (length a ≤ 255) × (length b ≤ 255)
     short_texts = sized_short k (length a) (length b) (and_parts _ _ fit_row).0
+
+    -- a line that is only checked
+    pub full_now : 256 ≤ length rs → Err refusals.Full ≡ taken_unless (refusal rs n a b)
+    full_now h = answer_is rs n a b (Some k) (Some refusals.Full) is_kind ((passes well).2 ∙ cond-true (leb 256 (length rs)) (Some refusals.Full) None (le-leb 256 (length rs) h))
+
+    pub room_now : length rs < 256 → Ok tt ≡ taken_unless (refusal rs n a b)
+    room_now h = answer_is rs n a b (Some k) None is_kind ((passes well).2 ∙ cond-false (leb 256 (length rs)) (Some refusals.Full) None (lt-leb 256 (length rs) h))
 
     -- the line was put behind the others, or there was no room
     module _ (ls ms : List Line) (l : Line) (v : Bool) (before : rs ≡ map row ls) (tested : v ≡ ltb (length ls) 256) (after : ms ≡ cond v (ls ++ l ∷ []) ls) (new : row l ≡ row_of k a b) where

@@ -6,7 +6,7 @@ ghost use Rattle.texts.specs.Taken.{taken_unless};
 
 use crate::kinds::LineKind;
 use crate::line::Line;
-use crate::listing::Listing;
+use crate::listing::{LINES, Listing};
 use crate::refusals::Refusal;
 use stack::ArrayVec;
 use texts::is_printable;
@@ -32,6 +32,18 @@ impl Listing {
         self.check(kind, first, second)?;
         let line = Line::new(kind, first, second);
         self.lines.push(line).map_err(|_| Refusal::Full)
+    }
+
+    /// Whether a line would be added behind the others, or why not; nothing changes.
+    pub fn check_line(&self, kind: u16, first: &[u8], second: &[u8]) -> Result<(), Refusal>
+        ensures taken_or_refused { result ≡ taken_unless (refusal (rows self.now) kind first.now second.now) }
+    {
+        let kind = LineKind::try_from(kind)?;
+        self.check(kind, first, second)?;
+        if self.lines.as_slice().len() >= LINES {
+            return Err(Refusal::Full);
+        }
+        Ok(())
     }
 
     // Kind and texts are three parameters, as the public call has them: a struct would be made and taken apart again in each of two calls.

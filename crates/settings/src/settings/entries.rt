@@ -128,6 +128,16 @@ impl Settings {
         Ok(())
     }
 
+    /// Whether a line of the settings would be taken, or why not; nothing changes.
+    pub fn check_line(&self, line: &[u8]) -> Result<(), Refusal>
+        ensures taken_or_refused { result ≡ taken_unless (line_refusal (tables self.now) (offer_of line.now)) }
+    {
+        match Entry::read(line)? {
+            Entry::Texts(kind, first, second) => self.check(kind, first, second),
+            Entry::Flag(_) => Ok(()),
+        }
+    }
+
     /// Takes a line of the settings.
     pub fn load(&mut self, line: &[u8]) -> Result<(), Refusal>
         ensures taken_or_refused { result ≡ taken_unless (line_refusal (tables self.old) (offer_of line.now)) }

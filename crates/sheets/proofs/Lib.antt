@@ -1,0 +1,6 @@
+pub mod Entering
+pub mod LineSteps
+pub mod Places
+pub mod RowSteps
+pub mod Serving
+pub mod Wholes
