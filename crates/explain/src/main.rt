@@ -1,9 +1,13 @@
 // Says in words how a sheet's requests are read, what a host says of them, what labels try, which candidates there are, where quiet requests end and what the lookup of each ends in.
 #![tactic(auto)]
 
+ghost use Rattle.std.specs.Prelude.{◌≡◌, [], IfOk};
 ghost use Rattle.cache.specs.Held.{Agrees, held};
 ghost use Rattle.listing.specs.Entries.{rows};
 ghost use Rattle.listing.specs.Meanings.{listed};
+ghost use Rattle.settings.specs.Meant.{tables};
+ghost use Rattle.settings.specs.Tables.{unset};
+ghost use Rattle.explain.specs.Filling.{filled_by};
 
 mod answer;
 mod cause;
@@ -150,17 +154,19 @@ fn conclude<H: Host, P: Policy>(
 }
 
 // A resolver of its own for the front of a sheet, which counts and holds nothing yet.
-fn resolver_of(rt: &HostRuntime, sheet: &[u8]) -> anyhow::Result<Resolver<Cache<Listing>, PartCount>>
+fn resolver_of(
+    rt: &HostRuntime,
+    sheet: &[u8],
+) -> anyhow::Result<Resolver<Cache<Listing>, PartCount>>
+    ensures listing_of_the_front { IfOk result (λ r. rows r.host.below ≡ (filled_by [] unset sheet.now).rows) }
+    ensures settings_of_the_front { IfOk result (λ r. tables r.settings ≡ (filled_by [] unset sheet.now).tables) }
+    ensures no_path_yet { IfOk result (λ r. r.handed_out ≡ 0) }
     ensures sound { IfOk result (λ r. Agrees (listed (rows r.host.below)).kind (held r.host.recent)) }
 {
     let mut listing = Listing::new();
     let mut settings = Settings::new();
     fill(rt.alloc(), &mut listing, &mut settings, sheet)?;
-    Ok(Resolver::new(
-        settings,
-        Cache::new(listing),
-        PartCount { max: MAX_DEPTH },
-    ))
+    Ok(Resolver::new(settings, Cache::new(listing), PartCount { max: MAX_DEPTH }))
 }
 
 fn run(rt: &HostRuntime) -> anyhow::Result<()> {
@@ -187,7 +193,12 @@ fn run(rt: &HostRuntime) -> anyhow::Result<()> {
             Err(refusal) => refuse(rt, number, Cause::Question(refusal), line)?,
         }
     }
-    println!(rt; "{}", Tally { paths: resolver.tally() })?;
+    println!(rt;
+        "{}",
+        Tally {
+            paths: resolver.tally()
+        }
+    )?;
     Ok(())
 }
 

@@ -58,8 +58,9 @@ pub enum Order<'a> {
 fn is_forget(line: &[u8]) -> bool
     ensures kind_41_without_texts { result ≡ forgets (content_of line.now) }
 {
-    Line::read(line)
-        .is_ok_and(|line| line.kind == FORGETS && line.first.is_empty() && line.second.is_empty())
+    Line::read(line).is_ok_and(|line| line.kind == FORGETS
+        && line.first.is_empty()
+        && line.second.is_empty())
 }
 
 impl<'a> Order<'a> {

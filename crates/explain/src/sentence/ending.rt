@@ -84,7 +84,10 @@ impl fmt::Display for LookupEnd {
                     word: " and ",
                     text: front_of(refused.second, &self.second),
                 };
-                write!(f, "  The lookup is refused with {number}{first}{second}{rounds}")
+                write!(
+                    f,
+                    "  The lookup is refused with {number}{first}{second}{rounds}"
+                )
             }
         }
     }
@@ -101,7 +104,10 @@ impl fmt::Display for Forgot {
 
     fn fmt<W: fmt::Write>(&self, f: &mut fmt::Formatter<W>) -> fmt::Result {
         let line = self.line;
-        write!(f, "Line {line} makes the resolver forget what it held to answer faster")
+        write!(
+            f,
+            "Line {line} makes the resolver forget what it held to answer faster"
+        )
     }
 }
 
