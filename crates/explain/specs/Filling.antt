@@ -9,7 +9,7 @@ use Rattle.explain.specs.declared.front.Filled.{Filled}
 use Rattle.explain.specs.declared.numbered.NumberedLines.{NumberedLines}
 use Rattle.explain.specs.declared.sentence.refused.Refused.{Refused}
 use Rattle.explain.specs.FrontLine.{front_cause, front_rows, front_tables}
-use Rattle.explain.specs.Questions.{question_of}
+use Rattle.explain.specs.Questions.{order_of}
 use Rattle.explain.specs.SheetLines.{NextLine, left_of, lines_before, next_line}
 
 -- a line that was refused: its number, why, and the line
@@ -45,9 +45,9 @@ after_line s line = record {
   rest = behind_line s.rest;
 }
 
--- the line asks a question
+-- the line asks a question, or makes the resolver forget
 abbrev pub asks : Text → Bool
-asks line = is_ok (question_of line)
+asks line = is_ok (order_of line)
 
 -- no line is left in front of the questions, and nothing changed
 pub record FrontEnded (s t : NumberedLines) : Type 0 where
