@@ -76,7 +76,7 @@ fn next_in_front<'a>(lines: &mut NumberedLines<'a>) -> Option<(u64, &'a [u8])>
     Some((number, line))
 }
 
-/// The lines in front of the first that asks that were refused, and the lines that are left of the sheet.
+/// The lines in front that were refused, and the lines that are left of the sheet.
 #[derive(Drop)]
 pub struct Filled<'a> {
     pub refused: Vec<Refused<'a>>,
