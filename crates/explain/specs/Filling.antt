@@ -1,4 +1,4 @@
--- What the lines in front of the first question leave, one after the other. Assumes nothing.
+-- What the lines in front of the first that asks leave, one after the other. Assumes nothing.
 use Rattle.std.specs.Prelude.{◌≡◌, length, ℕ, zero, suc, Bool, true, false, cond, ◌||◌, List, map, [], ◌∷◌, ◌++◌, is_ok, Some, None, Option}
 use Rattle.texts.specs.Texts.{Text, empty}
 use Rattle.lines.specs.Sheets.{behind_line, line_of}
@@ -45,7 +45,7 @@ after_line s line = record {
   rest = behind_line s.rest;
 }
 
--- the line asks a question, or makes the resolver forget
+-- the line asks: a question, or to forget
 abbrev pub asks : Text → Bool
 asks line = is_ok (order_of line)
 
@@ -59,12 +59,12 @@ pub record NextInFront (s : NumberedLines) (number : ℕ) (line : Text) (t : Num
   pub does_not_ask : asks (line_of (left_of s)) ≡ false
   pub next : NextLine s number line t
 
--- up to the first question or the end, n lines at most
+-- up to the first line that asks or the end, n lines at most
 abbrev pub filled : ℕ → Front → Front
 filled zero s = s
 filled (suc n) s = cond (empty s.rest) s (cond (asks (line_of s.rest)) s (filled n (after_line s (line_of s.rest))))
 
--- what a whole sheet leaves before its first question; it has no more lines than bytes
+-- what a whole sheet leaves before its first line that asks; it has no more lines than bytes
 abbrev pub filled_by : List Row → Tables → Text → Front
 filled_by rs t sheet = filled (length sheet) (record { rows = rs; tables = t; lines = 0; refused = []; rest = sheet })
 

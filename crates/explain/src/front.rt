@@ -1,4 +1,4 @@
-// The lines in front of the first question, which fill the listing and the settings.
+// The lines in front of the first that asks, which fill the listing and the settings.
 ghost use Rattle.std.specs.Prelude.{◌≡◌, ◌++◌, IfOk, MatchOption, OnOk, Option, map};
 ghost use Rattle.lines.specs.Sheets.{content_of, head_of};
 ghost use Rattle.listing.specs.Entries.{rows};
@@ -76,14 +76,14 @@ fn next_in_front<'a>(lines: &mut NumberedLines<'a>) -> Option<(u64, &'a [u8])>
     Some((number, line))
 }
 
-/// The lines in front of the first question that were refused, and the lines that are left of the sheet.
+/// The lines in front that were refused, and the lines that are left of the sheet.
 #[derive(Drop)]
 pub struct Filled<'a> {
     pub refused: Vec<Refused<'a>>,
     pub lines: NumberedLines<'a>,
 }
 
-/// Fills the listing and the settings from the lines in front of the first question.
+/// Fills the listing and the settings from the lines in front of the first that asks.
 pub fn fill<'a>(
     alloc: Global,
     listing: &mut Listing,
