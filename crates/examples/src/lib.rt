@@ -4,6 +4,8 @@
 #[cfg(test)]
 mod aliases;
 #[cfg(test)]
+mod firmware;
+#[cfg(test)]
 mod layers;
 #[cfg(test)]
 mod line_format;

@@ -1,5 +1,6 @@
 pub mod Bounds
 pub mod DecidingSteps
+pub mod EndSteps
 pub mod FillingSteps
 pub mod FrontLine
 pub mod QuietSteps

@@ -1,9 +1,7 @@
 -- What makes a question quiet, and what its candidates decide. Assumes nothing.
-use Rattle.std.proofs.Common.{◌≡◌, ◌≤◌, Bool, true, false, cond, not, ◌&&◌, ◌||◌, leb, List, [], ◌∷◌, length, map, take, Some, None, Option, sym, refl, ap, ◌∙◌, arith}
+use Rattle.std.proofs.Common.{◌≡◌, ◌≤◌, Bool, true, false, cond, not, ◌&&◌, ◌||◌, leb, List, [], ◌∷◌, length, map, Some, None, Option, sym, refl, ap, ◌∙◌, arith}
 use Rattle.std.specs.List.{list_all, list_any}
 use Rattle.std.proofs.lemmas.Bool.{and_parts, cond-true, false≢true, leb-true, not-true}
-use Rattle.std.proofs.lemmas.List.{length-map, length-take-le}
-use Rattle.texts.specs.Held.{bytes_of}
 use Rattle.texts.specs.Texts.{Text, ascii, fits}
 use Rattle.texts.specs.Parts.{clean, parts}
 use Rattle.paths.specs.Joins.{join, joins}
@@ -18,9 +16,7 @@ use Rattle.tree.specs.declared.answers.Kind.TheVariants as kind
 use Rattle.tree.specs.Acceptances.{Allowed, acceptable, unrestricted}
 use Rattle.tree.specs.Meanings.{Meaning, Proper, is_file}
 use Rattle.settings.specs.declared.settings.Settings.{Settings}
-use Rattle.settings.specs.Limits.{WithinLimits}
 use Rattle.settings.specs.Meant.{tables}
-use Rattle.settings.specs.Rows.{alias_of}
 use Rattle.settings.specs.Tables.{Alias, Tables}
 use Rattle.settings.proofs.Limited.{within_limits}
 use Rattle.alias.specs.Forms.{touches}
@@ -29,7 +25,6 @@ use Rattle.lookup.specs.Laws.{all_untouched, candidates_of, unmarked, untouched}
 use Rattle.lookup.specs.Outcomes.{Room, answer, refusal}
 use Rattle.lookup.specs.Quiet.{First, NonePasses, NothingFoundIfNonePasses, QuietCall, QuietRequestGivesTheFirst}
 use Rattle.lookup.proofs.Firsts.{gives_the_first, nothing_if_none}
-use Rattle.stack.specs.Held.{held}
 use Rattle.explain.specs.Offers.{Judged, broken, by_kind, judged, passes, too_long, tried, verdict_of}
 use Rattle.explain.specs.Quiet.{QuietQuestion, first_acceptable, is_relative, is_untouched, may_be_quiet, quiet_outcome}
 use Rattle.explain.specs.Readings.{within}

@@ -1,4 +1,4 @@
--- What the lines in front of the first question leave, one after the other. Assumes nothing.
+-- What the lines in front of the first that asks leave, one after the other. Assumes nothing.
 use Rattle.std.specs.Prelude.{◌≡◌, length, ℕ, zero, suc, Bool, true, false, cond, ◌||◌, List, map, [], ◌∷◌, ◌++◌, is_ok, Some, None, Option}
 use Rattle.texts.specs.Texts.{Text, empty}
 use Rattle.lines.specs.Sheets.{behind_line, line_of}
@@ -9,7 +9,7 @@ use Rattle.explain.specs.declared.front.Filled.{Filled}
 use Rattle.explain.specs.declared.numbered.NumberedLines.{NumberedLines}
 use Rattle.explain.specs.declared.sentence.refused.Refused.{Refused}
 use Rattle.explain.specs.FrontLine.{front_cause, front_rows, front_tables}
-use Rattle.explain.specs.Questions.{question_of}
+use Rattle.explain.specs.Questions.{order_of}
 use Rattle.explain.specs.SheetLines.{NextLine, left_of, lines_before, next_line}
 
 -- a line that was refused: its number, why, and the line
@@ -45,9 +45,9 @@ after_line s line = record {
   rest = behind_line s.rest;
 }
 
--- the line asks a question
+-- the line asks: a question, or to forget
 abbrev pub asks : Text → Bool
-asks line = is_ok (question_of line)
+asks line = is_ok (order_of line)
 
 -- no line is left in front of the questions, and nothing changed
 pub record FrontEnded (s t : NumberedLines) : Type 0 where
@@ -59,12 +59,12 @@ pub record NextInFront (s : NumberedLines) (number : ℕ) (line : Text) (t : Num
   pub does_not_ask : asks (line_of (left_of s)) ≡ false
   pub next : NextLine s number line t
 
--- up to the first question or the end, n lines at most
+-- up to the first line that asks or the end, n lines at most
 abbrev pub filled : ℕ → Front → Front
 filled zero s = s
 filled (suc n) s = cond (empty s.rest) s (cond (asks (line_of s.rest)) s (filled n (after_line s (line_of s.rest))))
 
--- what a whole sheet leaves before its first question; it has no more lines than bytes
+-- what a whole sheet leaves before its first line that asks; it has no more lines than bytes
 abbrev pub filled_by : List Row → Tables → Text → Front
 filled_by rs t sheet = filled (length sheet) (record { rows = rs; tables = t; lines = 0; refused = []; rest = sheet })
 

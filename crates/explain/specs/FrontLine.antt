@@ -1,4 +1,4 @@
--- What one line in front of the first question does to the listing and the settings. Assumes nothing.
+-- What one line in front of the first that asks does to the listing and the settings. Assumes nothing.
 use Rattle.std.specs.Prelude.{Bool, false, cond, ◌||◌, ◌==◌, List, is_some, Some, None, Option}
 use Rattle.std.specs.Option.{option_map}
 use Rattle.texts.specs.Texts.{Text}

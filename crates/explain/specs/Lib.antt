@@ -1,5 +1,6 @@
 pub mod Answers
 pub mod Causes
+pub mod Ends
 pub mod Filling
 pub mod FrontLine
 pub mod Labels

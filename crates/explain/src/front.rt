@@ -1,4 +1,4 @@
-// The lines in front of the first question, which fill the listing and the settings.
+// The lines in front of the first that asks, which fill the listing and the settings.
 ghost use Rattle.std.specs.Prelude.{◌≡◌, ◌++◌, IfOk, MatchOption, OnOk, Option, map};
 ghost use Rattle.lines.specs.Sheets.{content_of, head_of};
 ghost use Rattle.listing.specs.Entries.{rows};
@@ -9,7 +9,7 @@ ghost use Rattle.texts.specs.Taken.{taken_unless};
 
 use crate::cause::Cause;
 use crate::numbered::NumberedLines;
-use crate::question::Question;
+use crate::question::Order;
 use crate::refusal::Refusal;
 use crate::sentence::Refused;
 use lines::{Head, Line};
@@ -63,27 +63,27 @@ fn note<'a>(
 }
 
 // No `Peekable`, which would take the question out of the sheet, and hide what is left of it.
-// The next line if it does not ask; a question stays where it is.
+// The next line if it stands in front; a question or a forget stays where it is.
 fn next_in_front<'a>(lines: &mut NumberedLines<'a>) -> Option<(u64, &'a [u8])>
     ensures next_line_or_none_in_front { MatchOption result (FrontEnded lines.old lines.new) (λ x. NextInFront lines.old x.0 x.1.now lines.new) }
 {
     let mut ahead = *lines;
     let (number, line) = ahead.next()?;
-    if Question::read(line).is_ok() {
+    if Order::read(line).is_ok() {
         return None;
     }
     *lines = ahead;
     Some((number, line))
 }
 
-/// The lines in front of the first question that were refused, and the lines that are left of the sheet.
+/// The lines in front that were refused, and the lines that are left of the sheet.
 #[derive(Drop)]
 pub struct Filled<'a> {
     pub refused: Vec<Refused<'a>>,
     pub lines: NumberedLines<'a>,
 }
 
-/// Fills the listing and the settings from the lines in front of the first question.
+/// Fills the listing and the settings from the lines in front of the first that asks.
 pub fn fill<'a>(
     alloc: Global,
     listing: &mut Listing,

@@ -1,12 +1,17 @@
-// Says in words how a sheet's requests are read, what a host says of them, what labels try, which candidates there are and where quiet requests end.
+// Says in words how a sheet's requests are read, what a host says of them, what labels try, which candidates there are, where quiet requests end and what the lookup of each ends in.
 #![tactic(auto)]
 
+ghost use Rattle.std.specs.Prelude.{◌≡◌, [], IfOk};
 ghost use Rattle.cache.specs.Held.{Agrees, held};
 ghost use Rattle.listing.specs.Entries.{rows};
 ghost use Rattle.listing.specs.Meanings.{listed};
+ghost use Rattle.settings.specs.Meant.{tables};
+ghost use Rattle.settings.specs.Tables.{unset};
+ghost use Rattle.explain.specs.Filling.{filled_by};
 
 mod answer;
 mod cause;
+mod ending;
 mod front;
 mod numbered;
 mod offer;
@@ -22,16 +27,18 @@ use answer::ask;
 use cache::Cache;
 use candidates::is_inward;
 use cause::Cause;
+use ending::LookupEnd;
 use front::fill;
 use listing::Listing;
 use offer::offers;
-use question::Question;
+use question::{Order, Question};
 use quiet::quiet_end;
 use reading::{Reading, sought};
-use sentence::{Labels, Offered, Refused, Told};
+use resolver::Resolver;
+use sentence::{Forgot, Labels, Offered, Refused, Tally, Told};
 use settings::Settings;
 use std::io::Read;
-use tree::{FileTree, PartCount};
+use tree::{FileTree, Host, PartCount, Policy};
 use trial::{deciding, trials};
 
 // How many parts a path has at most that is handed out.
@@ -98,21 +105,17 @@ fn refuse(rt: &HostRuntime, line: u64, cause: Cause, text: &[u8]) -> anyhow::Res
     Ok(())
 }
 
-// The sentences for one line of the sheet.
+// The sentences for one question.
 fn explain(
     rt: &HostRuntime,
     host: &mut Cache<Listing>,
     settings: &Settings,
     number: u64,
-    line: &[u8],
+    question: Question,
 ) -> anyhow::Result<()>
     requires sound { Agrees (listed (rows host.old.below)).kind (held host.old.recent) }
     ensures still_sound { Agrees (listed (rows host.new.below)).kind (held host.new.recent) }
 {
-    let question = match Question::read(line) {
-        Ok(question) => question,
-        Err(refusal) => return refuse(rt, number, Cause::Question(refusal), line),
-    };
     let reading = match Reading::of(question) {
         Ok(reading) => reading,
         Err(refusal) => {
@@ -136,6 +139,36 @@ fn explain(
     explain_quiet(rt, host, settings, question)
 }
 
+// What the lookup of a question ends in, in a sentence.
+fn conclude<H: Host, P: Policy>(
+    rt: &HostRuntime,
+    resolver: &mut Resolver<H, P>,
+    question: Question,
+) -> anyhow::Result<()>
+    requires sound { H.FileTree.sound resolver.old.host }
+    ensures still_sound { H.FileTree.sound resolver.new.host }
+{
+    let end = LookupEnd::of(rt.alloc(), resolver, question)?;
+    println!(rt; "{end}")?;
+    Ok(())
+}
+
+// A resolver of its own for the front of a sheet, which counts and holds nothing yet.
+fn resolver_of(
+    rt: &HostRuntime,
+    sheet: &[u8],
+) -> anyhow::Result<Resolver<Cache<Listing>, PartCount>>
+    ensures listing_of_the_front { IfOk result (λ r. rows r.host.below ≡ (filled_by [] unset sheet.now).rows) }
+    ensures settings_of_the_front { IfOk result (λ r. tables r.settings ≡ (filled_by [] unset sheet.now).tables) }
+    ensures no_path_yet { IfOk result (λ r. r.handed_out ≡ 0) }
+    ensures sound { IfOk result (λ r. Agrees (listed (rows r.host.below)).kind (held r.host.recent)) }
+{
+    let mut listing = Listing::new();
+    let mut settings = Settings::new();
+    fill(rt.alloc(), &mut listing, &mut settings, sheet)?;
+    Ok(Resolver::new(settings, Cache::new(listing), PartCount { max: MAX_DEPTH }))
+}
+
 fn run(rt: &HostRuntime) -> anyhow::Result<()> {
     let mut input = Vec::new(rt.alloc());
     rt.stdin().read_to_end(&mut input)?;
@@ -146,9 +179,26 @@ fn run(rt: &HostRuntime) -> anyhow::Result<()> {
         println!(rt; "{refused}")?;
     }
     let mut host = Cache::new(listing);
+    let mut resolver = resolver_of(rt, input.as_slice())?;
     for (number, line) in filled.lines {
-        explain(rt, &mut host, &settings, number, line)?;
+        match Order::read(line) {
+            Ok(Order::Ask(question)) => {
+                explain(rt, &mut host, &settings, number, question)?;
+                conclude(rt, &mut resolver, question)?;
+            }
+            Ok(Order::Forget) => {
+                resolver.forget();
+                println!(rt; "{}", Forgot { line: number })?;
+            }
+            Err(refusal) => refuse(rt, number, Cause::Question(refusal), line)?,
+        }
     }
+    println!(rt;
+        "{}",
+        Tally {
+            paths: resolver.tally()
+        }
+    )?;
     Ok(())
 }
 

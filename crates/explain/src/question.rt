@@ -1,14 +1,18 @@
-// A line that asks: a directory and a request.
+// A line behind the front: it asks with a directory and a request, or makes the resolver forget.
 ghost use Rattle.std.specs.Prelude.{◌≡◌};
 ghost use Rattle.std.specs.Result.{result_map_both};
-ghost use Rattle.explain.specs.Questions.{asked, blamed, question_of};
+ghost use Rattle.lines.specs.Sheets.{content_of};
+ghost use Rattle.explain.specs.Questions.{asked, blamed, forgets, order_of, ordered, question_of};
 
 use crate::refusal::Refusal;
 use lines::Line;
 
-// A number, since a sheet may write any.
+// Numbers, since a sheet may write any.
 /// The kind of the line that asks.
 const ASKS: u16 = 40;
+
+/// The kind of the line that makes the resolver forget.
+const FORGETS: u16 = 41;
 
 // Beside the pair of `alias`: this one is read off a line and blamed, by calls that a type of another crate cannot have.
 #[derive(Clone, Copy)]
@@ -40,5 +44,33 @@ impl<'a> Question<'a> {
             Refusal::Directory => self.directory,
             _ => self.request,
         }
+    }
+}
+
+/// What a line behind the front says.
+#[derive(Clone, Copy)]
+pub enum Order<'a> {
+    Ask(Question<'a>),
+    Forget,
+}
+
+// Whether a line makes the resolver forget: its kind is 41, and it has no texts.
+fn is_forget(line: &[u8]) -> bool
+    ensures kind_41_without_texts { result ≡ forgets (content_of line.now) }
+{
+    Line::read(line).is_ok_and(|line| line.kind == FORGETS
+        && line.first.is_empty()
+        && line.second.is_empty())
+}
+
+impl<'a> Order<'a> {
+    /// The question in a line of kind 40, or the forget in one of kind 41 without texts; any other line is refused.
+    pub fn read(line: &'a [u8]) -> Result<Order<'a>, Refusal>
+        ensures order_in_the_line { result_map_both ordered (λ e. e) result ≡ order_of line.now }
+    {
+        if is_forget(line) {
+            return Ok(Order::Forget);
+        }
+        Question::read(line).map(Order::Ask)
     }
 }

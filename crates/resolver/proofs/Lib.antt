@@ -1,3 +1,4 @@
+pub mod EveryPile
 pub mod Handed
 pub mod Runs
 pub mod Served

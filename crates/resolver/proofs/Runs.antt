@@ -9,6 +9,10 @@ pub handed_then : (past : List Event) (e : Event) → handed_out_by (past ++ e �
 handed_then [] e = omega arith
 handed_then (p ∷ past) e = omega (arith, handed_then past e)
 
+pub handed_both : (past more : List Event) → handed_out_by (past ++ more) ≡ handed_out_by past + handed_out_by more
+handed_both [] more = omega arith
+handed_both (p ∷ past) more = omega (arith, handed_both past more)
+
 module _ (m : Meaning) (allowed : Allowed) (t : Tables) where
   all_right_then : (n : ℕ) (past : List Event) (e : Event) → AllRight m allowed t n past → Right m allowed t (n + handed_out_by past) e → AllRight m allowed t n (past ++ e ∷ [])
   all_right_then n [] e all h =
@@ -27,3 +31,12 @@ module _ (m : Meaning) (allowed : Allowed) (t : Tables) where
     each_as_defined = all_right_then 0 past e h.each_as_defined (let same : handed_out_by past ≡ 0 + handed_out_by past = omega arith in subst (λ (k : ℕ). Right m allowed t k e) same r);
     counted = omega (arith, n, h.counted, handed_then past e);
   }
+
+  -- a run, and another one behind it
+  pub all_right_both : (n : ℕ) (past more : List Event) → AllRight m allowed t n past → AllRight m allowed t (n + handed_out_by past) more → AllRight m allowed t n (past ++ more)
+  all_right_both n [] more all h =
+      let same : n + 0 ≡ n = omega arith in
+      subst (λ (k : ℕ). AllRight m allowed t k more) same h
+  all_right_both n (p ∷ past) more (one_more q rest r all) h =
+      let same : n + (handed_by p + handed_out_by past) ≡ n + handed_by p + handed_out_by past = omega arith in
+      one_more p (past ++ more) r (all_right_both (n + handed_by p) past more all (subst (λ (k : ℕ). AllRight m allowed t k more) same h))

@@ -1,3 +1,4 @@
 pub mod Handed
+pub mod Piled
 pub mod Runs
 pub mod Served

@@ -3,7 +3,8 @@ use Rattle.std.specs.Prelude.{◌≡◌, ℕ, ◌+◌, List, [], ◌∷◌, leng
 use Rattle.texts.specs.Texts.{Text}
 use Rattle.texts.specs.Parts.{text_at}
 use Rattle.tree.specs.Acceptances.{Allowed}
-use Rattle.tree.specs.Meanings.{Meaning}
+use Rattle.texts.specs.declared.place.Place.{Place}
+use Rattle.tree.specs.Meanings.{Meaning, Question, forgetting}
 use Rattle.settings.specs.Tables.{Tables}
 use Rattle.lookup.specs.Outcomes.{Room, answer, buffers_after, memory_after, refusal}
 use Rattle.lookup.specs.Resolutions.{resolution_of}
@@ -12,7 +13,7 @@ use Rattle.resolver.specs.declared.Answered.TheVariants.{Counted, Forgotten, Res
 use Rattle.resolver.specs.declared.Call.{Call}
 use Rattle.resolver.specs.declared.Call.TheVariants.{Forget, Resolve, Tally}
 use Rattle.resolver.specs.declared.Reply.{Reply}
-use Rattle.resolver.specs.Runs.{Buffers, ceiling, paths_in}
+use Rattle.resolver.specs.Runs.{Buffers, Event, asked, ceiling, forgot, paths_in, tallied}
 
 -- the three buffers of a reply
 abbrev pub buffers_of : Reply → Buffers
@@ -50,6 +51,25 @@ module _ (m : Meaning) (allowed : Allowed) (t : Tables) (area rows : ℕ) (texts
         (new.answered, buffers_of new) ≡ due n call old → Served (n + paths_by new.answered) calls olds news → Served n (call ∷ calls) (old ∷ olds) (new ∷ news)
 
 module _ (area rows : ℕ) (texts : Text) where
+  -- a call of a list as it went, by what it was answered and what its buffers held then; no call is answered in another way
+  abbrev pub went : Call → Reply → Answered × Buffers → Event
+  went (Resolve dir r) old (Resolved a, after) = asked (text_at texts dir) (text_at texts r) (room_in area rows old) a (buffers_of old) after
+  went (Resolve dir r) old (Unserved, after) = forgot
+  went (Resolve dir r) old (Forgotten, after) = forgot
+  went (Resolve dir r) old (Counted n, after) = forgot
+  went Forget old (a, after) = forgot
+  went Tally old (Counted n, after) = tallied n
+  went Tally old (Unserved, after) = forgot
+  went Tally old (Resolved a, after) = forgot
+  went Tally old (Forgotten, after) = forgot
+
+  -- the calls of a list as they went
+  abbrev pub events : List Call → List Reply → List Reply → List Event
+  events [] olds news = []
+  events (call ∷ calls) [] news = []
+  events (call ∷ calls) (old ∷ olds) [] = []
+  events (call ∷ calls) (old ∷ olds) (new ∷ news) = went call old (new.answered, buffers_of new) ∷ events calls olds news
+
   -- lent memory after a call, and after a list of calls: as it was until a lookup is accepted, blank from then on
   abbrev pub memory_by : {A : Type 0} → A → Call → Reply → List A → List A
   memory_by blank (Resolve dir r) old held = memory_after blank (refusal (room_in area rows old) (text_at texts dir) (text_at texts r)) held
@@ -60,3 +80,14 @@ module _ (area rows : ℕ) (texts : Text) where
   memory_then blank [] olds held = held
   memory_then blank (call ∷ calls) [] held = held
   memory_then blank (call ∷ calls) (old ∷ olds) held = memory_then blank calls olds (memory_by blank call old held)
+
+-- how calls move the host: a forget is handed on to it, a tally leaves it as it is, and a resolve may ask it
+module _ {Host : Type 0} (steps : Host → Question → Host → Type 0) where
+  pub data Moves : Call → Host → Host → Type 0 where
+    may_ask : {before after : Host} (dir r : Place) → Moves (Resolve dir r) before after
+    told_to_forget : {before after : Host} → steps before forgetting after → Moves Forget before after
+    left_alone : {host : Host} → Moves Tally host host
+
+  pub data MovesOn : List Call → Host → Host → Type 0 where
+    stays : {host : Host} → MovesOn [] host host
+    moves_on : {before between after : Host} (call : Call) (calls : List Call) → Moves call before between → MovesOn calls between after → MovesOn (call ∷ calls) before after

@@ -8,7 +8,10 @@ use settings::Settings;
 use texts::{MAX_LEN, Place};
 
 mod calls;
+mod piled;
 mod serving;
+
+pub use piled::serve_piled;
 
 /// Looks requests up with the settings, the host and the policy that it was made with, and counts the paths that it hands out.
 #[derive(Drop)]

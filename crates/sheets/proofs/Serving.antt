@@ -87,11 +87,12 @@ module _ (m : Meaning) (allowed : Allowed) (t : Tables) (sheet : Text) where
   one_row n (Resolve dir r) old new w h =
       let o = answer m allowed t (room_in 131072 1024 old) (text_at sheet dir) (text_at sheet r) in
       let bound = few m allowed t (text_at sheet dir) (text_at sheet r) (refusal (room_in 131072 1024 old) (text_at sheet dir) (text_at sheet r)) in
-      let short : (resolution_of o).rounds ≤ 999 = omega (arith, rounds_told o, bound) in
-      (ap (λ (x : Answered × Buffers). answered_row x.0 x.1) h
-      ∙ outcome_told o (buffers_of old)
-      ∙ ap (λ (room : Room). outcome_row (answer m allowed t room (text_at sheet dir) (text_at sheet r))) (room_lent old w),
-      subst FewRounds (ap (λ (x : Answered × Buffers). x.0) (sym h)) short)
+      let short : (resolution_of o).rounds ≤ 999 = omega (arith, rounds_told o, bound) in (
+        ap (λ (x : Answered × Buffers). answered_row x.0 x.1) h
+            ∙ outcome_told o (buffers_of old)
+            ∙ ap (λ (room : Room). outcome_row (answer m allowed t room (text_at sheet dir) (text_at sheet r))) (room_lent old w),
+        subst FewRounds (ap (λ (x : Answered × Buffers). x.0) (sym h)) short,
+      )
   one_row n Forget old new w h =
       (ap (λ (x : Answered × Buffers). answered_row x.0 x.1) h, subst FewRounds (ap (λ (x : Answered × Buffers). x.0) (sym h)) tt)
   one_row n Tally old new w h =

@@ -38,7 +38,7 @@ impl From<lines::Refusal> for Refusal {
     ghost from_gives = { λ _ r. r ≡ refused.Line };
 
     fn from(_refusal: lines::Refusal) -> Refusal {
-        Refusal::Line
+        Self::Line
     }
 }
 
@@ -46,7 +46,7 @@ impl From<listing::Refusal> for Refusal {
     ghost from_gives = { λ refusal r. r ≡ refused.Listing refusal };
 
     fn from(refusal: listing::Refusal) -> Refusal {
-        Refusal::Listing(refusal)
+        Self::Listing(refusal)
     }
 }
 
@@ -54,6 +54,6 @@ impl From<settings::Refusal> for Refusal {
     ghost from_gives = { λ refusal r. r ≡ refused.Setting refusal };
 
     fn from(refusal: settings::Refusal) -> Refusal {
-        Refusal::Setting(refusal)
+        Self::Setting(refusal)
     }
 }

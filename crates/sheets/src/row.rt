@@ -34,7 +34,12 @@ fn front(len: Option<usize>, buffer: &[u8]) -> &[u8]
 }
 
 // The columns of a row, behind what was written before.
-fn push_columns(rows: &mut Vec<u8>, number: u8, rounds: usize, texts: Texts) -> Result<(), AllocError>
+fn push_columns(
+    rows: &mut Vec<u8>,
+    number: u8,
+    rounds: usize,
+    texts: Texts,
+) -> Result<(), AllocError>
     requires few_rounds { rounds ≤ 999 }
     requires first_is_short { length texts.first.now ≤ 255 }
     requires second_is_short { length texts.second.now ≤ 255 }

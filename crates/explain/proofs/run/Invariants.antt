@@ -4,4 +4,7 @@ use Rattle.listing.specs.Meanings.{listed}
 use Rattle.explain.proofs.run.Given as goal
 
 abbrev pub invariant-loop-number : goal.invariant-loop-number
-invariant-loop-number l = Agrees (listed (rows l.host.below)).kind (held l.host.recent)
+invariant-loop-number l = record {
+  host_sound : Agrees (listed (rows l.host.below)).kind (held l.host.recent);
+  resolver_sound : Agrees (listed (rows l.resolver.host.below)).kind (held l.resolver.host.recent);
+}

@@ -18,9 +18,9 @@ use tree::Kind;
 
 // A query or fragment with its name, or that there is none.
 #[derive(Clone, Copy)]
-struct Piece<'a> {
-    name: &'static str,
-    text: Option<&'a [u8]>,
+pub(super) struct Piece<'a> {
+    pub(super) name: &'static str,
+    pub(super) text: Option<&'a [u8]>,
 }
 
 impl fmt::Display for Piece<'_> {

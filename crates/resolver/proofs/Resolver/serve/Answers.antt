@@ -1,4 +1,4 @@
-use Rattle.std.proofs.Common.{◌≡◌, ◌+◌, ◌<◌, [], length, min, take, slice_index_or, slice_set, refl, ap, ◌∙◌, arith}
+use Rattle.std.proofs.Common.{◌≡◌, ◌+◌, ◌<◌, ◌++◌, sym, [], length, min, take, slice_index_or, slice_set, refl, ap, ◌∙◌, arith}
 use Rattle.std.proofs.lemmas.List.{take_more_set}
 use Rattle.std.proofs.Math.Path.{transport}
 use Rattle.settings.specs.Meant.{tables}
@@ -7,9 +7,9 @@ use Rattle.resolver.specs.declared.Answered.TheVariants.{Unserved}
 use Rattle.resolver.specs.declared.Call.{Call}
 use Rattle.resolver.specs.declared.Call.TheVariants.{Resolve}
 use Rattle.resolver.specs.declared.Reply.{Reply}
-use Rattle.resolver.specs.Runs.{ceiling}
-use Rattle.resolver.specs.Served.{buffers_of, due, memory_by, no_call_left, paths_of}
-use Rattle.resolver.proofs.Served.{memory_to, others_wait, paths_then, served_to}
+use Rattle.resolver.specs.Runs.{Reached, ceiling}
+use Rattle.resolver.specs.Served.{events, stays, buffers_of, due, memory_by, no_call_left, paths_of}
+use Rattle.resolver.proofs.Served.{memory_to, moved_to, others_wait, paths_then, reached_through, served_to}
 use Rattle.resolver.proofs.Resolver.serve.Goals as goal
 
 pub loop-i-init : goal.loop-i-init
@@ -18,6 +18,7 @@ loop-i-init g c = record {
   same_meaning = refl;
   same_settings = refl;
   same_policy = refl;
+  moved_so_far = stays;
   as_many_bytes = refl;
   as_many_rows = refl;
   served_so_far = λ n h. no_call_left;
@@ -52,6 +53,7 @@ loop-i-preserved g c =
       same_meaning = one.same_meaning ∙ before.same_meaning;
       same_settings = one.settings_and_policy_stay.0 ∙ before.same_settings;
       same_policy = one.settings_and_policy_stay.1 ∙ before.same_policy;
+      moved_so_far = moved_to g.H.FileTree.steps calls i no_call s.host c.loop-i.self.host c.serve_one.new.self.host called before.moved_so_far one.host_is_told;
       as_many_bytes = omega (arith, c.serve_one.auto.area, before.as_many_bytes);
       as_many_rows = omega (arith, c.serve_one.auto.rows, before.as_many_rows);
       served_so_far = λ n h.
@@ -67,3 +69,19 @@ loop-i-preserved g c =
           memory_to (length c.args.area.now) (length c.args.rows.now) texts blank_call calls olds news i no_call no_reply c.args.rows.now c.loop-i.rows c.serve_one.new.rows called replied waited before.others_wait before.rows_so_far
           (one.rows_as_defined ∙ (λ j. memory_by (before.as_many_bytes j) (before.as_many_rows j) texts blank_call call old c.loop-i.rows));
     }
+
+pub returns-clause-run_goes_on_as_defined : goal.returns-clause-run_goes_on_as_defined
+returns-clause-run_goes_on_as_defined g c past h =
+    let s = c.args.self.now in
+    let before = c.loop-i.invariant in
+    let m = g.H.FileTree.meaning s.host in
+    let allowed = g.P.Policy.allowed s.policy in
+    let t = tables s.settings in
+    let area = length c.args.area.now in
+    let rows = length c.args.rows.now in
+    let all : c.loop-i.i ≡ c.min-served.result = omega (arith, c.loop-i-test.false, c.loop-i.auto.i-end) in
+    let calls = take c.loop-i.i c.args.calls.now in
+    let olds = take c.loop-i.i c.args.replies.now in
+    let news = take c.loop-i.i c.loop-i.replies in
+    transport (λ i. Reached (sym before.same_meaning i) (g.P.Policy.allowed (sym before.same_policy i)) (tables (sym before.same_settings i)) (past ++ events area rows c.args.texts.now (take (all i) c.args.calls.now) (take (all i) c.args.replies.now) (take (all i) c.loop-i.replies)) c.loop-i.self.handed_out)
+    (reached_through m allowed t area rows c.args.texts.now past calls olds news s.handed_out c.loop-i.self.handed_out h before.served_so_far before.counted_so_far)

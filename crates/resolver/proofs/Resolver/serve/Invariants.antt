@@ -1,7 +1,7 @@
 use Rattle.std.proofs.Common.{◌≡◌, ℕ, ◌+◌, length, min, take, drop}
 use Rattle.lookup.specs.Blank.{blank_call}
 use Rattle.resolver.specs.Runs.{ceiling}
-use Rattle.resolver.specs.Served.{Served, memory_then, paths_of}
+use Rattle.resolver.specs.Served.{MovesOn, Served, memory_then, paths_of}
 use Rattle.settings.specs.Meant.{tables}
 use Rattle.resolver.proofs.Resolver.serve.Given as goal
 
@@ -15,6 +15,7 @@ invariant-loop-i g l =
       same_meaning : g.H.FileTree.meaning l.self.host ≡ m;
       same_settings : l.self.settings ≡ s.settings;
       same_policy : l.self.policy ≡ s.policy;
+      moved_so_far : MovesOn g.H.FileTree.steps (take l.i l.calls) s.host l.self.host;
       as_many_bytes : length l.area ≡ length l.fn.area;
       as_many_rows : length l.rows ≡ length l.fn.rows;
       served_so_far : (n : ℕ) → s.handed_out ≡ min n ceiling → Served m (g.P.Policy.allowed s.policy) (tables s.settings) (length l.fn.area) (length l.fn.rows) l.texts n (take l.i l.calls) (take l.i l.fn.replies) (take l.i l.replies);

@@ -1,0 +1,65 @@
+// What a lookup of the resolver ends in.
+ghost use Rattle.std.specs.Prelude.{◌≡◌, ◌+◌, IfOk, OnErr, min};
+ghost use Rattle.settings.specs.Meant.{tables};
+ghost use Rattle.lookup.specs.Outcomes.{answer};
+ghost use Rattle.resolver.specs.Runs.{ceiling, paths_in};
+ghost use Rattle.explain.specs.Ends.{end_in, end_of, lent};
+
+use crate::question::Question;
+use lookup::{OpenCall, Resolution};
+use resolver::Resolver;
+use std::alloc::{AllocError, Global};
+use texts::MAX_LEN;
+use tree::{FileTree, Host, Policy};
+
+// How much memory a lookup asks for: bytes of the text area, and rows.
+const AREA: usize = 131_072;
+
+const ROWS: usize = 1024;
+
+/// What a lookup ends in: its answer, and the buffers with its texts.
+#[derive(Clone, Copy)]
+pub struct LookupEnd {
+    pub resolution: Resolution,
+    pub first: [u8; MAX_LEN],
+    pub second: [u8; MAX_LEN],
+    pub third: [u8; MAX_LEN],
+}
+
+impl LookupEnd {
+    /// Looks a question up, with memory of its own.
+    pub fn of<H: Host, P: Policy>(
+        alloc: Global,
+        resolver: &mut Resolver<H, P>,
+        question: Question,
+    ) -> Result<LookupEnd, AllocError>
+        requires sound { H.FileTree.sound resolver.old.host }
+        ensures ends_as_defined { IfOk result (λ e. end_in e ≡ end_of (answer (H.FileTree.meaning resolver.old.host) (P.Policy.allowed resolver.old.policy) (tables resolver.old.settings) lent question.entry.directory.now question.entry.request.now)) }
+        ensures a_path_counts { IfOk result (λ e. resolver.new.handed_out ≡ min (resolver.old.handed_out + paths_in e.resolution.outcome) ceiling) }
+        ensures nothing_counts_without_memory { OnErr result (resolver.new.handed_out ≡ resolver.old.handed_out) }
+        ensures settings_and_policy_stay { (resolver.new.settings ≡ resolver.old.settings) × (resolver.new.policy ≡ resolver.old.policy) }
+        ensures same_meaning { H.FileTree.meaning resolver.new.host ≡ H.FileTree.meaning resolver.old.host }
+        ensures still_sound { H.FileTree.sound resolver.new.host }
+    {
+        let mut area = vec![in alloc; 0; AREA]?;
+        let mut rows = vec![in alloc; OpenCall::blank(); ROWS]?;
+        let mut first = [0; MAX_LEN];
+        let mut second = [0; MAX_LEN];
+        let mut third = [0; MAX_LEN];
+        let resolution = resolver.resolve(
+            question.directory,
+            question.request,
+            &mut area,
+            &mut rows,
+            &mut first,
+            &mut second,
+            &mut third,
+        );
+        Ok(LookupEnd {
+            resolution,
+            first,
+            second,
+            third,
+        })
+    }
+}
