@@ -1,4 +1,4 @@
-// Gives the stored sheets to the port and compares its rows with those of the original, byte for byte.
+// Gives the stored sheets of a list to the port and compares its rows with those of the original, byte for byte.
 #![tactic(auto)]
 
 mod case;
@@ -16,12 +16,9 @@ use case::cases;
 use group::Group;
 use replay::replay;
 use score::Scores;
-use std::fs;
+use std::{env, fs};
 use summary::{Differing, Summary};
 use verdict::Verdict;
-
-// Where the stored list lies, from the folder that the program runs in.
-const LIST: &str = "answers.list";
 
 // The line on a sheet that differs.
 fn tell(rt: &HostRuntime, verdict: &Verdict) -> anyhow::Result<()> {
@@ -48,7 +45,10 @@ fn sum_up(rt: &HostRuntime, scores: &Scores) -> anyhow::Result<()> {
 }
 
 fn run(rt: &HostRuntime) -> anyhow::Result<()> {
-    let list = fs::read(rt, LIST)?;
+    let Some(path) = env::args(rt)?.nth(1) else {
+        bail!("there is no stored list: replay LIST");
+    };
+    let list = fs::read(rt, path.as_str())?;
     let Some(cases) = cases(rt.alloc(), list.as_slice())? else {
         bail!("the stored list has something that is no case");
     };
