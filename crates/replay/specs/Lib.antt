@@ -1,0 +1,6 @@
+pub mod Cases
+pub mod Lists
+pub mod Replayed
+pub mod Scores
+pub mod Summaries
+pub mod Verdicts

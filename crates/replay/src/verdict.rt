@@ -1,0 +1,35 @@
+// What is found of a stored sheet.
+ghost use Rattle.std.specs.Prelude.{◌≡◌};
+ghost use Rattle.replay.specs.Cases.{judged, stored};
+ghost use Rattle.replay.specs.Verdicts.{judged_of};
+
+use crate::case::Case;
+use crate::comparison::{count_rows, count_same_rows, first_other_row};
+use texts::same_bytes;
+
+/// What is found of a stored sheet.
+#[derive(Clone, Copy, Debug)]
+pub struct Verdict<'a> {
+    pub case: Case<'a>,
+    /// whether every byte is the same
+    pub agrees: bool,
+    pub rows: usize,
+    pub same_rows: usize,
+    /// the first row that is another, counted from 1
+    pub other_row: Option<usize>,
+}
+
+impl<'a> Verdict<'a> {
+    /// A stored sheet beside what was answered for it.
+    pub fn of(case: Case<'a>, answered: &[u8]) -> Verdict<'a>
+        ensures compares_every_byte_and_each_row { judged result ≡ judged_of (stored case.entry) answered.now }
+    {
+        Verdict {
+            case,
+            agrees: same_bytes(answered, case.rows),
+            rows: count_rows(case.rows),
+            same_rows: count_same_rows(answered, case.rows),
+            other_row: first_other_row(answered, case.rows),
+        }
+    }
+}
