@@ -6,6 +6,7 @@ ghost use Rattle.std.specs.Option.{option_map};
 ghost use Rattle.settings.specs.Rows.{alias_of, value_of};
 ghost use Rattle.settings.specs.Tables.{Alias};
 ghost use Rattle.tree.specs.Meanings.{Meaning};
+ghost use Rattle.alias.specs.Asked.{ValueAsked, ValuesAsked, behind_found};
 ghost use Rattle.alias.specs.Attempts.{Attempt as Tried, attempts, ignoring, value_attempt};
 ghost use Rattle.alias.specs.Left.{RowTaken, Taken, ValueFound, ends_search, first_value, gone_to, label_tried, left, row_left, row_said, said, said_by, says, value_text, value_tried, values_left, written_length};
 ghost use Rattle.alias.specs.Laws.{UntouchingLabelChangesNothing};
@@ -90,6 +91,7 @@ impl<'a> Import<'a> {
     ) -> Option<HeldAttempt>
         requires sound { T.FileTree.sound tree.old }
         ensures attempt_of_the_value { option_map (says (value_text (value_of value.now)) label.now self.entry.request.now) result ≡ value_attempt (T.FileTree.meaning tree.old) self.entry.directory.now self.entry.request.now label.now (value_of value.now) }
+        ensures asked_once_if_a_plain_label_has_a_tail { ValueAsked T.FileTree.steps label.now self.entry.request.now (value_of value.now) tree.old tree.new }
         ensures same_meaning { T.FileTree.meaning tree.new ≡ T.FileTree.meaning tree.old }
         ensures still_sound { T.FileTree.sound tree.new }
     {
@@ -112,6 +114,7 @@ impl<'a> Import<'a> {
         requires sound { T.FileTree.sound tree.old }
         ensures first_value_that_is_not_passed_over { (tried : Bool) (later : List Tried) → ValueFound (T.FileTree.meaning tree.old) self.entry.directory.now self.entry.request.now (alias_of row.now) (drop from (alias_of row.now).values) tried later result }
         ensures place_among_four { IfSome result (λ x. x.0 < 4) }
+        ensures asked_value_by_value { ValuesAsked T.FileTree.steps (alias_of row.now).label self.entry.request.now (drop from (alias_of row.now).values) (behind_found (alias_of row.now).values result) tree.old tree.new }
         ensures same_meaning { T.FileTree.meaning tree.new ≡ T.FileTree.meaning tree.old }
         ensures still_sound { T.FileTree.sound tree.new }
     {
