@@ -1,3 +1,4 @@
 pub mod Touching
 pub mod Rewriting
 pub mod Attempting
+pub mod Asking

@@ -1,4 +1,5 @@
 pub mod Answers
+pub mod Asked
 pub mod Attempts
 pub mod Forms
 pub mod Labels

@@ -1,11 +1,12 @@
 // The labels tried on a request, one attempt after the other.
 // Each call that asks the tree keeps its meaning and its soundness in its own contract, as the project asks of every call.
-ghost use Rattle.std.specs.Prelude.{◌≡◌, ◌<◌, ◌≤◌, ◌-◌, ◌+◌, Bool, false, List, [], ◌∷◌, IfSome, MatchOption, Some, map, drop, length, take};
+ghost use Rattle.std.specs.Prelude.{◌≡◌, ◌<◌, ◌≤◌, ◌-◌, ◌+◌, Bool, true, false, List, [], ◌∷◌, IfSome, MatchOption, Some, map, drop, length, take};
 ghost use Rattle.texts.specs.Texts.{Text as Bytes, fronted};
 ghost use Rattle.std.specs.Option.{option_map};
 ghost use Rattle.settings.specs.Rows.{alias_of, value_of};
 ghost use Rattle.settings.specs.Tables.{Alias};
 ghost use Rattle.tree.specs.Meanings.{Meaning};
+ghost use Rattle.alias.specs.Asked.{LabelAsked, SomeAsked, SomeLabelsAsked, ValueAsked, ValuesAsked, behind_found};
 ghost use Rattle.alias.specs.Attempts.{Attempt as Tried, attempts, ignoring, value_attempt};
 ghost use Rattle.alias.specs.Left.{RowTaken, Taken, ValueFound, ends_search, first_value, gone_to, label_tried, left, row_left, row_said, said, said_by, says, value_text, value_tried, values_left, written_length};
 ghost use Rattle.alias.specs.Laws.{UntouchingLabelChangesNothing};
@@ -90,6 +91,7 @@ impl<'a> Import<'a> {
     ) -> Option<HeldAttempt>
         requires sound { T.FileTree.sound tree.old }
         ensures attempt_of_the_value { option_map (says (value_text (value_of value.now)) label.now self.entry.request.now) result ≡ value_attempt (T.FileTree.meaning tree.old) self.entry.directory.now self.entry.request.now label.now (value_of value.now) }
+        ensures asked_once_if_a_plain_label_has_a_tail { ValueAsked T.FileTree.steps label.now self.entry.request.now (value_of value.now) tree.old tree.new }
         ensures same_meaning { T.FileTree.meaning tree.new ≡ T.FileTree.meaning tree.old }
         ensures still_sound { T.FileTree.sound tree.new }
     {
@@ -112,6 +114,7 @@ impl<'a> Import<'a> {
         requires sound { T.FileTree.sound tree.old }
         ensures first_value_that_is_not_passed_over { (tried : Bool) (later : List Tried) → ValueFound (T.FileTree.meaning tree.old) self.entry.directory.now self.entry.request.now (alias_of row.now) (drop from (alias_of row.now).values) tried later result }
         ensures place_among_four { IfSome result (λ x. x.0 < 4) }
+        ensures asked_value_by_value { ValuesAsked T.FileTree.steps (alias_of row.now).label self.entry.request.now (drop from (alias_of row.now).values) (behind_found (alias_of row.now).values result) tree.old tree.new }
         ensures same_meaning { T.FileTree.meaning tree.new ≡ T.FileTree.meaning tree.old }
         ensures still_sound { T.FileTree.sound tree.new }
     {
@@ -199,6 +202,7 @@ impl Progress {
         requires not_done { self.old.done ≡ false }
         ensures same_label { self.new.label ≡ self.old.label }
         ensures next_of_its_values { (later : List Tried) → RowTaken (values_left (T.FileTree.meaning tree.old) import.entry.directory.now import.entry.request.now (alias_of row.now) self.old later) (option_map (row_said (alias_of row.now) self.new import.entry.request.now) result) (values_left (T.FileTree.meaning tree.old) import.entry.directory.now import.entry.request.now (alias_of row.now) self.new later) self.new.done later }
+        ensures asked_value_by_value { SomeAsked T.FileTree.steps (alias_of row.now).label import.entry.request.now true (drop self.old.value (alias_of row.now).values) tree.old tree.new }
         ensures same_meaning { T.FileTree.meaning tree.new ≡ T.FileTree.meaning tree.old }
         ensures still_sound { T.FileTree.sound tree.new }
     {
@@ -225,6 +229,7 @@ impl Progress {
         requires not_done { self.old.done ≡ false }
         ensures same_label { self.new.label ≡ self.old.label }
         ensures next_of_the_label { (later : List Tried) → RowTaken (row_left (T.FileTree.meaning tree.old) import.entry.directory.now import.entry.request.now (alias_of row.now) self.old later) (option_map (row_said (alias_of row.now) self.new import.entry.request.now) result) (row_left (T.FileTree.meaning tree.old) import.entry.directory.now import.entry.request.now (alias_of row.now) self.new later) self.new.done later }
+        ensures asked_value_by_value_if_it_touches { LabelAsked T.FileTree.steps import.entry.request.now (alias_of row.now) self.old.value tree.old tree.new }
         ensures same_meaning { T.FileTree.meaning tree.new ≡ T.FileTree.meaning tree.old }
         ensures still_sound { T.FileTree.sound tree.new }
     {
@@ -250,6 +255,7 @@ impl Progress {
         ensures short_work_text_is_refused { length work.old < 255 → (result ≡ Some (Err (record {}))) × ((self.new ≡ self.old) × (tree.new ≡ tree.old)) }
         ensures only_its_text_is_written { work.new ≡ fronted (take (written_length result) work.new) work.old }
         ensures untouching_label_changes_nothing { UntouchingLabelChangesNothing (T.FileTree.meaning tree.old) directory.now request.now }
+        ensures asked_label_by_label { SomeLabelsAsked T.FileTree.steps request.now (drop self.old.label (map alias_of aliases.now)) self.old.value tree.old tree.new }
         ensures same_meaning { T.FileTree.meaning tree.new ≡ T.FileTree.meaning tree.old }
         ensures still_sound { T.FileTree.sound tree.new }
     {

@@ -1,4 +1,5 @@
 pub mod Answers
+pub mod Asked
 pub mod Candidates
 pub mod Left
 pub mod Samples

@@ -8,6 +8,7 @@ ghost use Rattle.tree.specs.Meanings.{Meaning};
 ghost use Rattle.settings.specs.Meant.{tables};
 ghost use Rattle.settings.specs.Tables.{Tables};
 ghost use Rattle.candidates.specs.Answers.{formed_by, said, written_length};
+ghost use Rattle.candidates.specs.Asked.{AskedBetween, DirectoryAsked, ahead};
 ghost use Rattle.candidates.specs.Candidates.{candidates, main_text};
 ghost use Rattle.candidates.specs.Left.{Stepped, Taken, behind_main, behind_path, ended, left, rank, stage_left};
 ghost use Rattle.candidates.specs.declared.forming.Fault.TheVariants.{TooLong};
@@ -98,6 +99,7 @@ fn begin(stage: Stage) -> Walk
 fn step_path(sought: &Sought, form: Form, place: usize) -> (Option<Formed>, Walk)
     ensures next_or_moved { (m : Meaning) → Stepped (stage_left (tables sought.now.settings.now) sought.now.fully_specified sought.now.path.now m (Stage.Path form) place) (option_map (formed_by sought.now.path.now) result.0) (left (tables sought.now.settings.now) sought.now.fully_specified sought.now.path.now m result.1) }
     ensures nearer_to_the_end { result.0 ≡ None → rank result.1.stage < rank (Stage.Path form) }
+    ensures same_side_of_the_directory { ahead result.1.stage ≡ ahead (Stage.Path form) }
 {
     match sought.candidate(form, place) {
         Some(candidate) => {
@@ -114,6 +116,8 @@ fn step_directory<H: Host>(host: &mut H, path: &[u8]) -> (Option<Formed>, Walk)
     requires sound { H.FileTree.sound host.old }
     ensures next_or_moved { (t : Tables) (fully : Bool) → Stepped (stage_left t fully path.now (H.FileTree.meaning host.old) Stage.Directory 0) (option_map (formed_by path.now) result.0) (left t fully path.now (H.FileTree.meaning host.old) result.1) }
     ensures nearer_to_the_end { result.0 ≡ None → rank result.1.stage < rank Stage.Directory }
+    ensures past_the_directory { ahead result.1.stage ≡ false }
+    ensures asked_once_for_kind_and_manifest { DirectoryAsked H.FileTree.steps (H.FileTree.meaning host.old) path.now host.old host.new }
     ensures same_meaning { H.FileTree.meaning host.new ≡ H.FileTree.meaning host.old }
     ensures still_sound { H.FileTree.sound host.new }
 {
@@ -138,6 +142,7 @@ fn step_main<H: Host>(
     requires sound { H.FileTree.sound host.now }
     ensures next_or_moved { Stepped (stage_left (tables sought.now.settings.now) sought.now.fully_specified sought.now.path.now (H.FileTree.meaning host.now) (Stage.Main main form) place) (option_map (formed_by sought.now.path.now) result.0) (left (tables sought.now.settings.now) sought.now.fully_specified sought.now.path.now (H.FileTree.meaning host.now) result.1) }
     ensures nearer_to_the_end { result.0 ≡ None → rank result.1.stage < rank (Stage.Main main form) }
+    ensures past_the_directory { ahead result.1.stage ≡ false }
 {
     let Some(text) = host.main_text(sought.path, main) else {
         return (None, begin(Stage::Path(Form::Index)));
@@ -177,6 +182,7 @@ impl Walk {
         requires sound { H.FileTree.sound host.old }
         ensures next_or_moved { Stepped (left (tables sought.now.settings.now) sought.now.fully_specified sought.now.path.now (H.FileTree.meaning host.old) self) (option_map (formed_by sought.now.path.now) result.0) (left (tables sought.now.settings.now) sought.now.fully_specified sought.now.path.now (H.FileTree.meaning host.old) result.1) }
         ensures nearer_to_the_end { result.0 ≡ None → ended self.stage ≡ false → rank result.1.stage < rank self.stage }
+        ensures asked_only_at_the_directory { AskedBetween H.FileTree.steps (H.FileTree.meaning host.old) sought.now.path.now self.stage result.1.stage host.old host.new }
         ensures same_meaning { H.FileTree.meaning host.new ≡ H.FileTree.meaning host.old }
         ensures still_sound { H.FileTree.sound host.new }
     {
@@ -192,6 +198,7 @@ impl Walk {
     fn advance<H: Host>(&mut self, host: &mut H, sought: &Sought) -> Option<Formed>
         requires sound { H.FileTree.sound host.old }
         ensures next_in_the_list { Taken (left (tables sought.now.settings.now) sought.now.fully_specified sought.now.path.now (H.FileTree.meaning host.old) self.old) (option_map (formed_by sought.now.path.now) result) (left (tables sought.now.settings.now) sought.now.fully_specified sought.now.path.now (H.FileTree.meaning host.old) self.new) }
+        ensures asked_only_at_the_directory { AskedBetween H.FileTree.steps (H.FileTree.meaning host.old) sought.now.path.now self.old.stage self.new.stage host.old host.new }
         ensures same_meaning { H.FileTree.meaning host.new ≡ H.FileTree.meaning host.old }
         ensures still_sound { H.FileTree.sound host.new }
     {
@@ -219,6 +226,7 @@ impl Walk {
         ensures next_in_the_list { 255 ≤ length out.old → Taken (left (tables settings.now) fully_specified path.now (H.FileTree.meaning host.old) self.old) (option_map (said path.now out.new) result) (left (tables settings.now) fully_specified path.now (H.FileTree.meaning host.old) self.new) }
         ensures short_buffer_is_refused { length out.old < 255 → (result ≡ Some (Err TooLong)) × ((self.new ≡ self.old) × (host.new ≡ host.old)) }
         ensures only_its_text_is_written { out.new ≡ fronted (take (written_length result) out.new) out.old }
+        ensures asked_only_at_the_directory { 255 ≤ length out.old → AskedBetween H.FileTree.steps (H.FileTree.meaning host.old) path.now self.old.stage self.new.stage host.old host.new }
         ensures same_meaning { H.FileTree.meaning host.new ≡ H.FileTree.meaning host.old }
         ensures still_sound { H.FileTree.sound host.new }
     {

@@ -1,4 +1,5 @@
 pub mod Entering
+pub mod Lawful
 pub mod LineSteps
 pub mod Places
 pub mod RowSteps

@@ -1,5 +1,6 @@
 pub mod Answers
 pub mod Entries
+pub mod Laws
 pub mod Reading
 pub mod Refusals
 pub mod Replies

@@ -4,6 +4,8 @@ ghost use Rattle.texts.specs.Held.{bytes_of};
 ghost use Rattle.texts.specs.Parts.{parts, text_at};
 ghost use Rattle.specifier.specs.Branches.{branch};
 ghost use Rattle.tree.specs.Acceptances.{Allowed};
+ghost use Rattle.tree.specs.Meanings.{kind_of, lookup_of};
+ghost use Rattle.alias.specs.Answers.{AskedIf};
 ghost use Rattle.settings.specs.Meant.{tables};
 ghost use Rattle.settings.specs.Tables.{Alias};
 ghost use Rattle.lookup.specs.Areas.{Before, OnlyIn};
@@ -42,6 +44,7 @@ fn look<H: Host>(
     ensures well_kept { (p : Progress) → Kept context.rounds (labels_row asked p) result }
     ensures ends_in_a_short_text { EndsShort result }
     ensures only_its_unit_is_written { OnlyIn (unit + 3) work.old work.new }
+    ensures asked_once_in_context_mode { AskedIf H.FileTree.steps (tables settings.now).context (kind_of (bytes_of path.now)) host.old host.new }
     ensures same_meaning { H.FileTree.meaning host.new ≡ H.FileTree.meaning host.old }
     ensures still_sound { H.FileTree.sound host.new }
 {
@@ -76,6 +79,7 @@ fn look_up<H: Host>(
     ensures answered_by_the_host { (labels : List Alias) → ended work.new labels result context ≡ answered_by (text_at work.old asked.text) ((H.FileTree.meaning host.old).lookup way (text_at work.old asked.text) (parts (text_at work.old asked.directory))) (context_of work.old context) }
     ensures ends_in_a_short_text { Short result }
     ensures only_its_unit_is_written { OnlyIn (unit + 3) work.old work.new }
+    ensures asked_once { H.FileTree.steps host.old (lookup_of way (text_at work.old asked.text) (text_at work.old asked.directory)) host.new }
     ensures same_meaning { H.FileTree.meaning host.new ≡ H.FileTree.meaning host.old }
     ensures still_sound { H.FileTree.sound host.new }
 {

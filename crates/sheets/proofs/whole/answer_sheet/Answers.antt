@@ -11,11 +11,12 @@ use Rattle.tree.specs.Acceptances.{Allowed}
 use Rattle.tree.specs.declared.part_count.PartCount.{PartCount}
 use Rattle.sheets.specs.Reading.{State, after_sheet}
 use Rattle.sheets.specs.Tasks.{task_in}
+use Rattle.sheets.proofs.Lawful.{closed_stay, forgetting_unseen, later_add, lookup_closes}
 use Rattle.sheets.proofs.Wholes.{whole_told}
 use Rattle.sheets.proofs.whole.answer_sheet.Goals as goal
 
-pub returns : goal.returns
-returns c =
+pub returns-clause-rows_of_the_sheet : goal.returns-clause-rows_of_the_sheet
+returns-clause-rows_of_the_sheet c =
     let sheet = c.args.sheet.now in
     let s : State = after_sheet [] unset sheet in
     let read = c.in_ok-tasks.ensures in
@@ -28,4 +29,28 @@ returns c =
     ap (map (task_in sheet)) c.as_slice.ensures.value ∙ read.all_else_left_to_do ∙ ap (λ (x : State). x.todo) same in
     let policy : PartCount → Allowed = λ p path. leb (length (parts path)) p.max in
     let told = whole_told _ _ _ _ s (ap listed lines) (ap policy made.2) settings todo in
-    record { rows_of_the_sheet = subst (λ (x : Text). IfOk c.answer.result (λ r. r.items ≡ x)) told c.answer.ensures.row_behind_row }
+    subst (λ (x : Text). IfOk c.answer.result (λ r. r.items ≡ x)) told c.answer.ensures.row_behind_row
+
+pub returns-in_err-tasks-clause-a_lookup_closes_the_tables : goal.returns-in_err-tasks-clause-a_lookup_closes_the_tables
+returns-in_err-tasks-clause-a_lookup_closes_the_tables c = λ s line k is kind. lookup_closes s line k is kind
+
+pub returns-in_err-tasks-clause-closed_tables_stay : goal.returns-in_err-tasks-clause-closed_tables_stay
+returns-in_err-tasks-clause-closed_tables_stay c = λ s lines h. closed_stay s lines h
+
+pub returns-in_err-tasks-clause-later_lines_only_add : goal.returns-in_err-tasks-clause-later_lines_only_add
+returns-in_err-tasks-clause-later_lines_only_add c = λ s lines. later_add s lines
+
+pub returns-in_err-tasks-clause-forgetting_never_shows : goal.returns-in_err-tasks-clause-forgetting_never_shows
+returns-in_err-tasks-clause-forgetting_never_shows c = λ m allowed t before behind. forgetting_unseen m allowed t before behind
+
+pub returns-clause-a_lookup_closes_the_tables : goal.returns-clause-a_lookup_closes_the_tables
+returns-clause-a_lookup_closes_the_tables c = λ s line k is kind. lookup_closes s line k is kind
+
+pub returns-clause-closed_tables_stay : goal.returns-clause-closed_tables_stay
+returns-clause-closed_tables_stay c = λ s lines h. closed_stay s lines h
+
+pub returns-clause-later_lines_only_add : goal.returns-clause-later_lines_only_add
+returns-clause-later_lines_only_add c = λ s lines. later_add s lines
+
+pub returns-clause-forgetting_never_shows : goal.returns-clause-forgetting_never_shows
+returns-clause-forgetting_never_shows c = λ m allowed t before behind. forgetting_unseen m allowed t before behind

@@ -1,7 +1,9 @@
-use Rattle.std.proofs.Common.{◌≡◌, ℕ, ◌+◌, ◌*◌, ◌≤◌, true, false, ⊎_elim, mul-le-mul_left, length, sym, ap, subst, ◌∙◌, arith}
+use Rattle.std.proofs.Common.{◌≡◌, Bool, refl, ℕ, ◌+◌, ◌*◌, ◌≤◌, true, false, ⊎_elim, mul-le-mul_left, length, sym, ap, subst, ◌∙◌, arith}
 use Rattle.texts.specs.Held.{bytes_of}
 use Rattle.texts.specs.Parts.{parts, text_at}
 use Rattle.texts.specs.Texts.{Text}
+use Rattle.tree.specs.Meanings.{kind_of}
+use Rattle.alias.specs.Answers.{AskedIf}
 use Rattle.settings.specs.Meant.{tables}
 use Rattle.candidates.specs.Candidates.{candidates, inward, is_directory}
 use Rattle.candidates.specs.Left.{left}
@@ -53,6 +55,10 @@ returns-in-Nothing g c =
       well_kept = λ p. tt;
       ends_in_a_short_text = c.requires.labelled.short;
       only_its_unit_is_written = c.put-path.ensures.only_its_unit_is_written;
+      asked_once_in_context_mode =
+          subst (λ (p : Text). AskedIf g.H.FileTree.steps (tables c.args.settings.now).context (kind_of p) c.args.host.now c.kind.new.self)
+          (c.of.ensures.part_of_the_text ∙ c.put-path.ensures.text_in_its_place ∙ c.as_bytes.ensures.bytes_of_the_text)
+          (subst (λ (b : Bool). AskedIf g.H.FileTree.steps b (kind_of c.of.result.now) c.args.host.now c.kind.new.self) c.if-resolve_to_context.ensures.flag_as_set c.kind.ensures.steps_on);
       same_meaning = c.kind.ensures.same_meaning;
       still_sound = c.kind.ensures.still_sound;
     }
@@ -87,3 +93,13 @@ returns-clause-fewer_moves g c =
     candidates_few t fully m c.is_inward.result p ((g.met.H.FileTree.proper c.args.host.now c.requires.sound).few_mains (parts p)) in
     let product : test_moves t * length (left t fully p m c.new-walk.result) ≤ test_moves t * candidates_most t = mul-le-mul_left (test_moves t) (omega (arith, all, few)) in
     omega (arith, product)
+
+pub returns-in-Directory-clause-asked_once_in_context_mode : goal.returns-in-Directory-clause-asked_once_in_context_mode
+returns-in-Directory-clause-asked_once_in_context_mode g c =
+    subst (λ (p : Text). AskedIf g.H.FileTree.steps (tables c.args.settings.now).context (kind_of p) c.args.host.now c.kind.new.self)
+    (c.of.ensures.part_of_the_text ∙ c.put-path.ensures.text_in_its_place ∙ c.as_bytes.ensures.bytes_of_the_text)
+    (subst (λ (b : Bool). AskedIf g.H.FileTree.steps b (kind_of c.of.result.now) c.args.host.now c.kind.new.self) c.if-resolve_to_context.ensures.flag_as_set c.kind.ensures.steps_on)
+
+pub returns-clause-asked_once_in_context_mode : goal.returns-clause-asked_once_in_context_mode
+returns-clause-asked_once_in_context_mode g c =
+    subst (λ (b : Bool). AskedIf g.H.FileTree.steps b (kind_of (bytes_of c.args.path.now)) c.args.host.now c.args.host.now) c.if-resolve_to_context.ensures.flag_as_set refl

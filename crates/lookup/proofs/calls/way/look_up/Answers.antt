@@ -1,5 +1,6 @@
 use Rattle.std.proofs.Common.{◌≡◌, ℕ, ◌+◌, ◌-◌, replicate, take, Ok, sym, refl, ap, subst, ◌∙◌, arith}
 use Rattle.texts.specs.Parts.{parts, text_at}
+use Rattle.tree.specs.Meanings.{Question, lookup_of}
 use Rattle.tree.proofs.Findings.{found_there}
 use Rattle.lookup.specs.Areas.{OnlyIn}
 use Rattle.lookup.specs.Lookups.{answered_by, ends_in}
@@ -24,3 +25,24 @@ returns-in-Ok-Some-clause-answered_by_the_host g c =
     ∙ ap (λ (n : ℕ). ends_in (take n out) (context_of w c.args.context)) (sym from)
     ∙ ap (λ f. answered_by r f (context_of w c.args.context)) (sym there)
     ∙ (λ k. answered_by r (m.lookup c.args.way (c.of.ensures.part_of_the_text k) (parts (c.of-2.ensures.part_of_the_text k))) (context_of w c.args.context))
+
+pub returns-in-Ok-Some-clause-asked_once : goal.returns-in-Ok-Some-clause-asked_once
+returns-in-Ok-Some-clause-asked_once g c =
+    let w = c.args.work.now in
+    let same : lookup_of c.args.way c.of.result.now c.of-2.result.now ≡ lookup_of c.args.way (text_at w c.args.asked.text) (text_at w c.args.asked.directory) =
+    (λ k. lookup_of c.args.way (c.of.ensures.part_of_the_text k) (c.of-2.ensures.part_of_the_text k)) in
+    subst (λ (q : Question). g.H.FileTree.steps c.args.host.now q c.lookup.new.self) same c.lookup.ensures.steps_on
+
+pub returns-in-Ok-None-clause-asked_once : goal.returns-in-Ok-None-clause-asked_once
+returns-in-Ok-None-clause-asked_once g c =
+    let w = c.args.work.now in
+    let same : lookup_of c.args.way c.of.result.now c.of-2.result.now ≡ lookup_of c.args.way (text_at w c.args.asked.text) (text_at w c.args.asked.directory) =
+    (λ k. lookup_of c.args.way (c.of.ensures.part_of_the_text k) (c.of-2.ensures.part_of_the_text k)) in
+    subst (λ (q : Question). g.H.FileTree.steps c.args.host.now q c.lookup.new.self) same c.lookup.ensures.steps_on
+
+pub returns-in-Err-clause-asked_once : goal.returns-in-Err-clause-asked_once
+returns-in-Err-clause-asked_once g c =
+    let w = c.args.work.now in
+    let same : lookup_of c.args.way c.of.result.now c.of-2.result.now ≡ lookup_of c.args.way (text_at w c.args.asked.text) (text_at w c.args.asked.directory) =
+    (λ k. lookup_of c.args.way (c.of.ensures.part_of_the_text k) (c.of-2.ensures.part_of_the_text k)) in
+    subst (λ (q : Question). g.H.FileTree.steps c.args.host.now q c.lookup.new.self) same c.lookup.ensures.steps_on
