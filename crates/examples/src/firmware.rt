@@ -37,8 +37,8 @@ fn with_file(path: &[u8]) -> Result<Listing, Fail> {
 fn a_request_is_resolved(rt: HostRuntime) -> Result<(), Fail> {
     let host = Cache::new(with_file(b"/lib/a.js")?);
     let mut resolver = Resolver::new(with_extension()?, host, ANY_DEPTH);
-    let mut area = vec![in rt.alloc(); 0; AREA]?;
-    let mut rows = vec![in rt.alloc(); OpenCall::blank(); ROWS]?;
+    let mut area = [0; AREA];
+    let mut rows = [OpenCall::blank(); ROWS];
     let mut first = [b'.'; MAX_LEN];
     let mut second = [b'.'; MAX_LEN];
     let mut third = [b'.'; MAX_LEN];
@@ -67,8 +67,8 @@ fn a_request_is_resolved(rt: HostRuntime) -> Result<(), Fail> {
 #[test]
 fn nothing_found_is_no_path(rt: HostRuntime) -> Result<(), Fail> {
     let mut resolver = Resolver::new(with_extension()?, Listing::new(), ANY_DEPTH);
-    let mut area = vec![in rt.alloc(); 7; AREA]?;
-    let mut rows = vec![in rt.alloc(); OpenCall::blank(); ROWS]?;
+    let mut area = [7; AREA];
+    let mut rows = [OpenCall::blank(); ROWS];
     let mut first = [b'.'; MAX_LEN];
     let mut second = [b'.'; MAX_LEN];
     let mut third = [b'.'; MAX_LEN];
@@ -89,7 +89,7 @@ fn nothing_found_is_no_path(rt: HostRuntime) -> Result<(), Fail> {
     assert!(rt; answer.outcome == Err(refused) && answer.rounds == 1);
     assert!(rt; first.starts_with(b"./a.."));
     assert!(rt; second == [b'.'; MAX_LEN]);
-    assert!(rt; area.iter().all(|byte| *byte == 0));
+    assert!(rt; area == [0; AREA]);
     assert!(rt; resolver.tally() == 0);
     Ok(())
 }
@@ -97,8 +97,8 @@ fn nothing_found_is_no_path(rt: HostRuntime) -> Result<(), Fail> {
 #[test]
 fn what_is_refused_before_a_lookup_changes_nothing(rt: HostRuntime) -> Result<(), Fail> {
     let mut resolver = Resolver::new(with_extension()?, Listing::new(), ANY_DEPTH);
-    let mut area = vec![in rt.alloc(); 7; AREA]?;
-    let mut rows = vec![in rt.alloc(); OpenCall::blank(); ROWS]?;
+    let mut area = [7; AREA];
+    let mut rows = [OpenCall::blank(); ROWS];
     let mut first = [b'.'; MAX_LEN];
     let mut second = [b'.'; MAX_LEN];
     let mut third = [b'.'; MAX_LEN - 1];
@@ -117,7 +117,7 @@ fn what_is_refused_before_a_lookup_changes_nothing(rt: HostRuntime) -> Result<()
         second: None,
     };
     assert!(rt; answer.outcome == Err(refused) && answer.rounds == 0);
-    assert!(rt; area.iter().all(|byte| *byte == 7));
+    assert!(rt; area == [7; AREA]);
     assert!(rt; first == [b'.'; MAX_LEN]);
     Ok(())
 }
