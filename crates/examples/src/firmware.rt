@@ -34,14 +34,35 @@ fn with_file(path: &[u8]) -> Result<Listing, Fail> {
 }
 
 #[test]
-fn a_request_is_resolved(rt: HostRuntime) -> Result<(), Fail> {
+fn requests_are_resolved(rt: HostRuntime) -> Result<(), Fail> {
     let host = Cache::new(with_file(b"/lib/a.js")?);
     let mut resolver = Resolver::new(with_extension()?, host, ANY_DEPTH);
-    let mut area = [0; AREA];
+    let mut area = [7; AREA];
     let mut rows = [OpenCall::blank(); ROWS];
     let mut first = [b'.'; MAX_LEN];
     let mut second = [b'.'; MAX_LEN];
     let mut third = [b'.'; MAX_LEN];
+
+    // A buffer of 254 bytes is too short: the call is refused, and changes nothing.
+    let answer = resolver.resolve(
+        b"/lib",
+        b"./a",
+        &mut area,
+        &mut rows,
+        &mut first,
+        &mut second,
+        &mut third[..MAX_LEN - 1],
+    );
+    let refused = Refused {
+        error: ResolveError::NoMemory,
+        first: None,
+        second: None,
+    };
+    assert!(rt; answer.outcome == Err(refused) && answer.rounds == 0);
+    assert!(rt; area == [7; AREA]);
+    assert!(rt; first == [b'.'; MAX_LEN]);
+
+    // A path is found.
     let answer = resolver.resolve(
         b"/lib",
         b"./a?q",
@@ -60,21 +81,12 @@ fn a_request_is_resolved(rt: HostRuntime) -> Result<(), Fail> {
     assert!(rt; first.starts_with(b"/lib/a.js.."));
     assert!(rt; second.starts_with(b"?q.."));
     assert!(rt; third == [b'.'; MAX_LEN]);
-    assert!(rt; resolver.tally() == 1);
-    Ok(())
-}
+    assert!(rt; area == [0; AREA]);
 
-#[test]
-fn nothing_found_is_no_path(rt: HostRuntime) -> Result<(), Fail> {
-    let mut resolver = Resolver::new(with_extension()?, Listing::new(), ANY_DEPTH);
-    let mut area = [7; AREA];
-    let mut rows = [OpenCall::blank(); ROWS];
-    let mut first = [b'.'; MAX_LEN];
-    let mut second = [b'.'; MAX_LEN];
-    let mut third = [b'.'; MAX_LEN];
+    // Nothing is found: the request stands in the first buffer, before what the path left.
     let answer = resolver.resolve(
         b"/lib",
-        b"./a",
+        b"./b",
         &mut area,
         &mut rows,
         &mut first,
@@ -87,38 +99,8 @@ fn nothing_found_is_no_path(rt: HostRuntime) -> Result<(), Fail> {
         second: None,
     };
     assert!(rt; answer.outcome == Err(refused) && answer.rounds == 1);
-    assert!(rt; first.starts_with(b"./a.."));
-    assert!(rt; second == [b'.'; MAX_LEN]);
-    assert!(rt; area == [0; AREA]);
-    assert!(rt; resolver.tally() == 0);
-    Ok(())
-}
-
-#[test]
-fn what_is_refused_before_a_lookup_changes_nothing(rt: HostRuntime) -> Result<(), Fail> {
-    let mut resolver = Resolver::new(with_extension()?, Listing::new(), ANY_DEPTH);
-    let mut area = [7; AREA];
-    let mut rows = [OpenCall::blank(); ROWS];
-    let mut first = [b'.'; MAX_LEN];
-    let mut second = [b'.'; MAX_LEN];
-    let mut third = [b'.'; MAX_LEN - 1];
-    let answer = resolver.resolve(
-        b"lib",
-        b"./a",
-        &mut area,
-        &mut rows,
-        &mut first,
-        &mut second,
-        &mut third,
-    );
-    let refused = Refused {
-        error: ResolveError::NoMemory,
-        first: None,
-        second: None,
-    };
-    assert!(rt; answer.outcome == Err(refused) && answer.rounds == 0);
-    assert!(rt; area == [7; AREA]);
-    assert!(rt; first == [b'.'; MAX_LEN]);
+    assert!(rt; first.starts_with(b"./bb/a.js.."));
+    assert!(rt; resolver.tally() == 1);
     Ok(())
 }
 
