@@ -5,7 +5,8 @@ use Rattle.texts.specs.Texts.{Text}
 use Rattle.tree.specs.Meanings.{Question}
 use Rattle.settings.specs.Tables.{Alias}
 use Rattle.alias.specs.declared.attempts.Progress.{Progress}
-use Rattle.alias.specs.Asked.{LabelAsked, LabelsAsked, next_label}
+use Rattle.alias.specs.Asked.{LabelAsked, LabelsAsked, SomeAsked, next_label}
+use Rattle.alias.specs.Forms.{touches}
 use Rattle.alias.specs.Left.{gone_to}
 
 -- a label that is gone to begins with its first value, unless it is the one that was come to
@@ -29,3 +30,10 @@ module _ {S : Type 0} (steps : S → Question → S → Type 0) (r : Text) where
   -- behind it, the next label begins with its first value
   pub goes_on : {s u : S} (rest first : List Alias) (n i : ℕ) (new : Progress) → new.label ≡ i → LabelsAsked steps r first n rest 0 s u → LabelsAsked steps r first n rest (gone_to (i + 1) new).value s u
   goes_on {s = s} {u = u} rest first n i new at asked = subst (λ (k : ℕ). LabelsAsked steps r first n rest k s u) (sym (gone_value (i + 1) new (omega (arith, at)))) asked
+
+  -- a label that touches has its values looked at, any other asks nothing
+  pub asked_if_it_touches : {t u : S} (a : Alias) (n : ℕ) → touches a.label r ≡ true → SomeAsked steps a.label r true (drop n a.values) t u → LabelAsked steps r a n t u
+  asked_if_it_touches {t = t} {u = u} a n h asked = subst (λ (b : Bool). SomeAsked steps a.label r b (drop n a.values) t u) (sym h) asked
+
+  pub asks_nothing : (t : S) (a : Alias) (n : ℕ) → touches a.label r ≡ false → LabelAsked steps r a n t t
+  asks_nothing t a n h = subst (λ (b : Bool). SomeAsked steps a.label r b (drop n a.values) t t) (sym h) refl

@@ -60,6 +60,14 @@ gone_label n p = at (eqb n p.label) refl
     at true e = sym (eqb-true n p.label e)
     at false e = refl
 
+-- going to a label ends nothing
+pub gone_done : (n : ℕ) (p new : Progress) → new ≡ gone_to n p → p.done ≡ false → new.done ≡ false
+gone_done n p new e h = at (eqb n p.label) (ap (λ (q : Progress). q.done) e)
+  where
+    at : (b : Bool) → new.done ≡ (cond b p (record { label = n; value = 0; done = p.done })).done → new.done ≡ false
+    at true g = g ∙ h
+    at false g = g ∙ h
+
 module _ (m : Meaning) (dir r : Text) (ls : List Alias) (i : ℕ) (a : Alias) (step : drop i ls ≡ a ∷ drop (i + 1) ls) where
   abbrev later : List Tried
   later = attempts m dir r (drop (i + 1) ls)

@@ -218,27 +218,6 @@ impl Progress {
         Some(Ok(Attempt::Unmatched))
     }
 
-    // The next attempt of a label; none where it does not touch, or all its values are passed over.
-    fn try_label<T: FileTree>(
-        &mut self,
-        tree: &mut T,
-        row: &AliasRow,
-        import: Import,
-    ) -> Option<HeldAttempt>
-        requires sound { T.FileTree.sound tree.old }
-        requires not_done { self.old.done ≡ false }
-        ensures same_label { self.new.label ≡ self.old.label }
-        ensures next_of_the_label { (later : List Tried) → RowTaken (row_left (T.FileTree.meaning tree.old) import.entry.directory.now import.entry.request.now (alias_of row.now) self.old later) (option_map (row_said (alias_of row.now) self.new import.entry.request.now) result) (row_left (T.FileTree.meaning tree.old) import.entry.directory.now import.entry.request.now (alias_of row.now) self.new later) self.new.done later }
-        ensures asked_value_by_value_if_it_touches { LabelAsked T.FileTree.steps import.entry.request.now (alias_of row.now) self.old.value tree.old tree.new }
-        ensures same_meaning { T.FileTree.meaning tree.new ≡ T.FileTree.meaning tree.old }
-        ensures still_sound { T.FileTree.sound tree.new }
-    {
-        if !key_matches(row.label(), import.request) {
-            return None;
-        }
-        self.try_values(tree, row, import)
-    }
-
     // The caller lends the work text, by a rule of the project.
     /// The next attempt for a request from a directory: none is left, another request, or an end. A text that is made is written to the front of `work`, which holds any text if it has 255 bytes.
     #[tactic(auto, using(crate::proofs::Attempting::untouched))]
@@ -269,7 +248,11 @@ impl Progress {
         // Labels and their values are gone through by their index, by a rule of the project.
         for i in self.label..aliases.len() {
             self.go_to(i);
-            if let Some(attempt) = self.try_label(tree, &aliases[i], import) {
+            let row = &aliases[i];
+            if !key_matches(row.label(), request) {
+                continue;
+            }
+            if let Some(attempt) = self.try_values(tree, row, import) {
                 return Some(written(attempt, work));
             }
         }

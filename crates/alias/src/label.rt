@@ -81,6 +81,18 @@ fn begins_alike(prefix: &[u8], request: &[u8]) -> bool
     prefix.is_empty() || prefix.first() == request.first()
 }
 
+// Most labels are told apart from a request by one byte, before their form is known.
+// Whether the first bytes alone show that a label does not touch a request.
+#[tactic(auto, using(crate::proofs::Touching::begins_otherwise))]
+fn begins_otherwise(label: &[u8], request: &[u8]) -> bool
+    ensures then_it_does_not_touch { result ≡ true → touches label.now request.now ≡ false }
+{
+    match label {
+        [first, ..] => *first != b'*' && *first != b'$' && !begins_alike(label, request),
+        [] => false,
+    }
+}
+
 /// Whether a label touches a request.
 #[tactic(auto, using(crate::proofs::Touching::plain_touches, crate::proofs::Touching::exact_touches), unfolding(crate::specs::Forms::touches))]
 pub fn key_matches(label: &[u8], request: &[u8]) -> bool
@@ -88,5 +100,5 @@ pub fn key_matches(label: &[u8], request: &[u8]) -> bool
     ensures plain_label_touches_itself_and_what_continues_it { PlainTouchesWhatItContinues label.now request.now }
     ensures exact_label_touches_nothing_but_itself { ExactTouchesItself label.now request.now }
 {
-    AliasMatchKind::of(label).touches(request)
+    !begins_otherwise(label, request) && AliasMatchKind::of(label).touches(request)
 }

@@ -1,13 +1,13 @@
 -- What a cache holds goes on agreeing with the tree, and what a kind question does.
-use Rattle.std.proofs.Common.{◌≡◌, ℕ, zero, suc, ◌≤◌, Bool, true, false, cond, ◌&&◌, List, [], ◌∷◌, length, take, is_some, Some, None, Option, sym, refl, ap, ◌∙◌, subst, arith, length-take}
-use Rattle.std.proofs.lemmas.Bool.{false≢true, le-leb}
+use Rattle.std.proofs.Common.{◌≡◌, ℕ, zero, suc, Bool, true, false, cond, ◌&&◌, List, [], ◌∷◌, take, is_some, Some, None, Option, sym, refl, ap, ◌∙◌}
+use Rattle.std.proofs.lemmas.Bool.{false≢true}
 use Rattle.tree.specs.declared.answers.Kind.{Kind}
 use Rattle.cache.specs.Held.{Agrees, Asked}
 use Rattle.cache.specs.Seen.{Placed, Seen, fresh, holds, holds_text, recalled, remember, remember_text, renewed, renewed_as, room, without}
 use Rattle.texts.specs.Parts.{parts, same_parts}
 use Rattle.texts.specs.Texts.{Text, fits}
 use Rattle.tree.specs.Meanings.{Path}
-use Rattle.cache.proofs.Paths.{same_means_equal}
+use Rattle.texts.proofs.SamePaths.{same_means_equal}
 
 module _ (p : Path) where
   holds_step : (b : Bool) (k : Kind) (h : Bool) (r : Option Kind) → h ≡ is_some r → cond b true h ≡ is_some (cond b (Some k) r)
@@ -53,10 +53,6 @@ module _ (p : Path) where
 
     pub agrees_remember : (es : List Seen) (k : Kind) → k ≡ tree p → Agrees tree es → Agrees tree (remember p k es)
     agrees_remember es k is a = agrees_take room (fresh p k ∷ without p es) (is, agrees_without es a)
-
--- what is held with at most 255 bytes is short enough
-pub short_held : (bytes : List ℕ) (n : ℕ) (t : Text) → length bytes ≤ 255 → take n bytes ≡ t → fits t ≡ true
-short_held bytes n t few is = le-leb (length t) 255 (subst (λ (u : Text). length u ≤ 255) is (simp length-take (omega arith)))
 
 -- a kind question by a text that is short enough: the two ways that it can go
 module _ (tree : Path → Kind) (t : Text) (es after : List Seen) (short : fits t ≡ true) where

@@ -1,3 +1,2 @@
 pub mod Agreement
 pub mod Moves
-pub mod Paths

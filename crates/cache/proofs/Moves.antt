@@ -12,7 +12,7 @@ use Rattle.cache.specs.Held.{seen}
 use Rattle.cache.specs.Seen.{Placed, Seen, fresh, recalled, remember, renewed, renewed_as, without}
 use Rattle.texts.specs.Parts.{same_parts}
 use Rattle.tree.specs.Meanings.{Path}
-use Rattle.cache.proofs.Paths.{same_means_equal}
+use Rattle.texts.proofs.SamePaths.{same_means_equal}
 
 -- an entry that was put in front, and the room for it
 pub put_first : (r : Result Unit Full) (u : Unit) (x : Entry) (xs ys : List Entry) → r ≡ Ok u → ys ≡ cond (is_ok r) (x ∷ xs) xs → ys ≡ x ∷ xs
@@ -73,7 +73,7 @@ module _ (p : Path) (xs : List Entry) (i : ℕ) (x : Entry) (at : Placed p (map 
   others : map seen (remove xs i) ≡ without p (map seen xs)
   others = simp (map-append, take-map, drop-map) refl ∙ sym at.1.3
 
-  pub fewer : length xs ≤ 64 → length (remove xs i) ≤ 63
+  fewer : length xs ≤ 64 → length (remove xs i) ≤ 63
   fewer few = let inside = at.0 in omega (arith, length-map xs seen, length-append (take i xs) (drop (suc i) xs), length-take i xs, length-drop (suc i) xs)
 
   -- and becomes the first

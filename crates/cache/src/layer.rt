@@ -55,14 +55,14 @@ impl<H: FileTree> FileTree for Cache<H> {
     ghost proper = { λ s h. H.FileTree.proper s.below h.0 };
 
     fn kind(&mut self, path: &[u8]) -> Kind {
-        let Some(text) = Text::new(path) else {
+        if path.len() > MAX_LEN {
             return self.below.kind(path);
-        };
+        }
         if let Some(kind) = self.recent.recall(path) {
             return kind;
         }
         let kind = self.below.kind(path);
-        self.recent.remember(text, kind);
+        self.recent.remember(Text::new(path).unwrap(), kind);
         kind
     }
 }

@@ -1,6 +1,7 @@
 -- The first n slots of an array, each by what it means. Assumes nothing.
 use Rattle.std.proofs.Common.{◌≡◌, ℕ, suc, ◌+◌, ◌-◌, ◌<◌, ◌≤◌, List, [], ◌∷◌, ◌++◌, map, length, get_or, take, drop, set, sym, ap, ◌∙◌, add-one, append_assoc, arith, length-take}
 use lib.Seq.{take-set-lt}
+use Rattle.std.proofs.Math.Seq.{take-append-add}
 use Rattle.std.proofs.lemmas.List.{drop-drop, drop-map, drop-take, drop_more, length-append, length-drop, take-take, take_at, get_or-map, get_or-take, length-map, length-take-le, map_push, map-set, take_more_set}
 use Rattle.stack.specs.declared.array_vec.ArrayVec.{ArrayVec}
 use Rattle.stack.specs.Held.{held}
@@ -29,20 +30,22 @@ mapped_from f xs i x inside is =
     ∙ ap (map f) (drop_more xs i x inside)
     ∙ (λ k. f (sym is k) ∷ sym (drop-map f (i + 1) xs) k)
 
--- the first n slots with the one at i turned to their end, which is then left out
-pub taken_out : {X : Type 0} (xs rest ys : List X) (n i : ℕ) → i < n → n ≤ length xs → ys ≡ drop 1 (take (n - i) (drop i xs)) ++ take 1 (take (n - i) (drop i xs)) → take (n - 1) (take i xs ++ (ys ++ rest)) ≡ take i (take n xs) ++ drop (suc i) (take n xs)
-taken_out xs rest ys n i low high is =
-    let mid : List _ = take (n - i) (drop i xs) in
-    let back : List _ = drop (suc i) (take n xs) in
-    let split : i + (n - i) ≡ n = omega arith in
-    let from : mid ≡ drop i (take n xs) = sym (drop-take i (n - i) xs) ∙ ap (λ (k : ℕ). drop i (take k xs)) split in
-    let behind : drop 1 mid ≡ back = ap (drop 1) from ∙ drop-drop 1 i (take n xs) ∙ ap (λ (k : ℕ). drop k (take n xs)) (add-one i) in
-    let turned : ys ≡ back ++ take 1 mid = is ∙ ap (λ (zs : List _). zs ++ take 1 mid) behind in
-    let whole : take i xs ++ (ys ++ rest) ≡ (take i xs ++ back) ++ (take 1 mid ++ rest) =
-    ap (λ (zs : List _). take i xs ++ (zs ++ rest)) turned ∙ ap (λ (zs : List _). take i xs ++ zs) (append_assoc back (take 1 mid) rest) ∙ sym (append_assoc (take i xs) back (take 1 mid ++ rest)) in
-    let long : length (take i xs ++ back) ≡ n - 1 =
-    omega (arith, length-append (take i xs) back, length-take-le i xs (omega arith), length-drop (suc i) (take n xs), length-take-le n xs high) in
-    ap (take (n - 1)) whole ∙ take_at (take i xs ++ back) (take 1 mid ++ rest) (n - 1) long ∙ ap (λ (zs : List _). zs ++ back) (sym (take-take i n xs (omega arith)))
+-- the slots up to the one at i turned by one, so that it is the first of n
+pub moved_first : {X : Type 0} (xs ys : List X) (x : X) (n i : ℕ) → i < n → n ≤ length xs → x ≡ get_or xs i x → ys ≡ drop (length (take (i + 1 - 0) xs) - 1) (take (i + 1 - 0) xs) ++ take (length (take (i + 1 - 0) xs) - 1) (take (i + 1 - 0) xs) → take n (ys ++ drop (i + 1 - 0) xs) ≡ x ∷ (take i (take n xs) ++ drop (suc i) (take n xs))
+moved_first xs ys x n i low high item is =
+    let m : ℕ = n - suc i in
+    let whole : i + 1 - 0 ≡ i + 1 = omega arith in
+    let long : length (take (i + 1 - 0) xs) - 1 ≡ i = omega (arith, length-take-le (i + 1 - 0) xs (omega arith)) in
+    let last : drop i (take (i + 1) xs) ≡ x ∷ [] = drop-take i 1 xs ∙ ap (take 1) (drop_more xs i x (omega arith)) ∙ (λ k. sym item k ∷ []) in
+    let turned : ys ≡ x ∷ take i xs =
+    is ∙ (λ k. drop (long k) (take (whole k) xs) ++ take (long k) (take (whole k) xs)) ∙ (λ k. last k ++ take-take i (i + 1) xs (omega arith) k) in
+    let count : n ≡ suc (length (take i xs) + m) = omega (arith, length-take-le i xs (omega arith)) in
+    let split : suc i + m ≡ n = omega arith in
+    let behind : take m (drop (i + 1) xs) ≡ drop (suc i) (take n xs) = ap (λ (k : ℕ). take m (drop k xs)) (add-one i) ∙ sym (drop-take (suc i) m xs) ∙ ap (λ (k : ℕ). drop (suc i) (take k xs)) split in
+    (λ k. take n (turned k ++ drop (whole k) xs))
+    ∙ ap (λ (k : ℕ). take k (x ∷ (take i xs ++ drop (i + 1) xs))) count
+    ∙ ap (λ (zs : List _). x ∷ zs) (take-append-add (take i xs) (drop (i + 1) xs) m)
+    ∙ (λ k. x ∷ (sym (take-take i n xs (omega arith)) k ++ behind k))
 
 -- a list has at most as many items as it has slots
 pub held_within : {T : Type 0} {N : ℕ} (v : ArrayVec T N) → length (held v) ≤ N

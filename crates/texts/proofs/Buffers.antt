@@ -1,13 +1,13 @@
 -- Texts at the front of a buffer. Assumes nothing.
-use Rattle.std.proofs.Common.{◌≡◌, ℕ, ◌+◌, ◌-◌, ◌<◌, ◌≤◌, Bool, true, false, cond, leb, List, ◌++◌, length, take, drop, IfSome, MatchOption, Some, None, Option, sym, refl, ap, ◌∙◌, append_assoc, arith}
+use Rattle.std.proofs.Common.{◌≡◌, ℕ, ◌+◌, ◌-◌, ◌<◌, ◌≤◌, Bool, true, false, cond, leb, List, ◌++◌, length, take, drop, MatchOption, Some, None, Option, sym, refl, ap, ◌∙◌, append_assoc, arith}
 use borrow.Rule.Slice.PartMut.{put_mid}
-use Rattle.std.proofs.lemmas.List.{drop_at, drop-drop, length-append, length-take-le, take-append-drop, take_at, take-take}
+use Rattle.std.proofs.lemmas.List.{drop-drop, length-append, length-take-le, take_at}
 use Rattle.std.proofs.lemmas.Bool.{cond-false, cond-true, le-leb, leb-false, leb-true, lt-leb}
 use Rattle.std.specs.Option.{option_map}
 use Rattle.stack.proofs.Slots.{held_within}
 use Rattle.texts.specs.Held.{bytes_of}
 use Rattle.texts.specs.declared.text.Text.{Text as Held}
-use Rattle.texts.specs.Texts.{Text, appended, fronted, length_in, buffer_with, text_in}
+use Rattle.texts.specs.Texts.{Text, appended, fronted, length_in, buffer_with}
 use Rattle.texts.proofs.PartLoops.{some≢none}
 
 -- a text written behind the first `a` bytes of a buffer

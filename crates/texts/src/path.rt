@@ -36,6 +36,7 @@ pub fn is_clean(text: &[u8]) -> bool
 
 // By hand: a `zip` would not see which of the two has parts left, and of `Iterator::eq` over two maps the proof did not close.
 /// Whether two texts are the same path: their parts are the same.
+#[inline(never)]
 pub fn same_path(a: &[u8], b: &[u8]) -> bool
     ensures part_for_part { result ≡ same_parts (parts a.now) (parts b.now) }
 {
@@ -49,6 +50,20 @@ pub fn same_path(a: &[u8], b: &[u8]) -> bool
         }
     }
     right.next().is_none()
+}
+
+/// Whether two texts are the same path, where `are_clean` may say that both are clean: then their bytes decide.
+#[inline]
+#[tactic(auto, using(crate::proofs::SamePaths::clean_same))]
+pub fn same_known_path(a: &[u8], b: &[u8], are_clean: bool) -> bool
+    requires both_are_clean_if_so { are_clean ≡ true → (clean a.now ≡ true) × (clean b.now ≡ true) }
+    ensures part_for_part { result ≡ same_parts (parts a.now) (parts b.now) }
+{
+    if are_clean {
+        same_bytes(a, b)
+    } else {
+        same_path(a, b)
+    }
 }
 
 /// How many parts a text has.

@@ -2,23 +2,32 @@
 ghost use Rattle.std.specs.Prelude.{◌≡◌, [], None};
 ghost use Rattle.texts.specs.Held.{bytes_of};
 ghost use Rattle.texts.specs.Parts.{parts};
-ghost use Rattle.cache.specs.Seen.{Placed, holds, recalled, remember, renewed};
-ghost use Rattle.cache.specs.Held.{held};
+ghost use Rattle.cache.specs.Seen.{Placed, fresh, holds, recalled, remember, renewed};
+ghost use Rattle.cache.specs.Held.{held, seen};
 
 use super::{Entry, ROOM, Recent};
 use stack::ArrayVec;
-use texts::{MAX_LEN, Text, same_path};
+use texts::{MAX_LEN, Text, is_clean, same_known_path};
 use tree::Kind;
+
+impl Entry {
+    fn new(path: Text<MAX_LEN>, kind: Kind) -> Entry
+        ensures path_with_its_kind { seen result ≡ fresh (parts (bytes_of path)) kind }
+    {
+        Entry {
+            path,
+            is_clean: is_clean(path.as_bytes()),
+            kind,
+        }
+    }
+}
 
 impl Recent {
     // Nothing held.
     pub fn new() -> Recent
         ensures nothing_held { held result ≡ [] }
     {
-        let blank = Entry {
-            path: Text::empty(),
-            kind: Kind::Nothing,
-        };
+        let blank = Entry::new(Text::empty(), Kind::Nothing);
         let entries = ArrayVec::new(blank);
         Recent { entries }
     }
@@ -34,10 +43,12 @@ impl Recent {
     fn place(&self, path: &[u8]) -> Option<usize>
         ensures place_if_held { Placed (parts path.now) (held self.now) result }
     {
-        self.entries
-            .as_slice()
-            .iter()
-            .position(|entry| same_path(entry.path.as_bytes(), path))
+        let is_clean = is_clean(path);
+        self.entries.as_slice().iter().position(|entry| same_known_path(
+            entry.path.as_bytes(),
+            path,
+            is_clean && entry.is_clean,
+        ))
     }
 
     // Whether the path is held.
@@ -53,8 +64,7 @@ impl Recent {
         ensures becomes_the_latest { held self.new ≡ renewed (parts path.now) (held self.old) }
     {
         let i = self.place(path)?;
-        let entry = self.entries.remove(i)?;
-        self.entries.push_front(entry).unwrap();
+        let entry = self.entries.move_to_front(i)?;
         Some(entry.kind)
     }
 
@@ -64,6 +74,7 @@ impl Recent {
         ensures becomes_the_latest { held self.new ≡ remember (parts (bytes_of path)) kind (held self.old) }
     {
         self.entries.truncate(ROOM - 1);
-        self.entries.push_front(Entry { path, kind }).unwrap();
+        let entry = Entry::new(path, kind);
+        self.entries.push_front(entry).unwrap();
     }
 }

@@ -9,6 +9,7 @@ ghost use Rattle.listing.specs.Rows.{row};
 use crate::kinds::Topic;
 use crate::line::Line;
 use crate::listing::Listing;
+use texts::is_clean;
 
 impl Listing {
     pub(crate) fn line(&self, i: usize) -> &Line
@@ -23,8 +24,11 @@ impl Listing {
         ensures place_of_the_first_that_fits { result ≡ place (asked topic text.now) (rows self.now) }
         ensures rows_from_there_decide { MatchOption result (deciding (asked topic text.now) (rows self.now) ≡ []) (DecidesAt (asked topic text.now) (rows self.now)) }
     {
+        let is_clean = is_clean(text);
         let lines = self.lines.as_slice();
-        lines.iter().position(|line| line.fits(topic, text))
+        lines
+            .iter()
+            .position(|line| line.fits(topic, text, is_clean))
     }
 
     // This one and the next share the front of their chains, which cannot be handed out.

@@ -1,5 +1,5 @@
 // Adding items, taking them out, and reading them.
-ghost use Rattle.std.specs.Prelude.{◌≡◌, ◌+◌, ◌≤◌, [], ◌∷◌, ◌++◌, length, take, is_ok, if◌then◌else◌, nat_le, nat_lt, remove};
+ghost use Rattle.std.specs.Prelude.{◌≡◌, ◌+◌, ◌≤◌, [], ◌∷◌, ◌++◌, length, take, is_ok, if◌then◌else◌, nat_le, nat_lt, remove, MatchOption};
 ghost use Rattle.stack.specs.Held.{held};
 ghost use Rattle.stack.specs.Items.{item_at};
 
@@ -56,18 +56,17 @@ impl<T: Copy, const N: usize> ArrayVec<T, N> {
         Ok(())
     }
 
-    /// Takes out the item at `i`, and those behind it move up; beyond the last nothing changes.
-    pub fn remove(&mut self, i: usize) -> Option<T>
+    /// The item at `i` becomes the first, and those before it move down; beyond the last nothing changes.
+    pub fn move_to_front(&mut self, i: usize) -> Option<T>
         ensures item_at_the_place { result ≡ item_at (held self.old) i }
-        ensures items_after { held self.new ≡ remove (held self.old) i }
+        ensures item_then_the_others { MatchOption result (held self.new ≡ held self.old) (λ x. held self.new ≡ x ∷ remove (held self.old) i) }
     {
         if i >= self.len {
             return None;
         }
         let item = self.slots[i];
         let slots = &mut self.slots[..];
-        slots[i..self.len].rotate_left(1);
-        self.len -= 1;
+        slots[0..i + 1].rotate_right(1);
         Some(item)
     }
 

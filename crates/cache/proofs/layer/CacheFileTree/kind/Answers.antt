@@ -1,23 +1,26 @@
-use Rattle.std.proofs.Common.{◌≡◌, true, None, sym, refl, ap, ◌∙◌, subst, arith}
+use Rattle.std.proofs.Common.{◌≡◌, ◌<◌, true, length, None, Option, MatchOption, sym, refl, ap, ◌∙◌, subst}
+use Rattle.std.proofs.lemmas.Bool.{le-leb}
+use Rattle.texts.specs.declared.text.Text as Held
+use Rattle.texts.specs.Held.{bytes_of}
 use Rattle.texts.specs.Parts.{parts}
 use Rattle.texts.specs.Texts.{Text, fits}
 use Rattle.tree.specs.Meanings.{Meaning}
 use Rattle.cache.specs.Held.{Agrees, held}
 use Rattle.cache.specs.Seen.{recalled, remember}
-use Rattle.cache.proofs.Agreement.{agrees_recalled, agrees_remember, asked_held, asked_not_held, renewed_none, renewed_some, short_held}
+use Rattle.cache.proofs.Agreement.{agrees_recalled, agrees_remember, asked_held, asked_not_held, renewed_none, renewed_some}
 use Rattle.cache.proofs.layer.CacheFileTree.kind.Goals as goal
 
-pub returns-in-Some-recall : goal.returns-in-Some-recall
-returns-in-Some-recall g c =
+pub returns-in-Some : goal.returns-in-Some
+returns-in-Some g c =
     let t = c.args.path.now in
     let p = parts t in
     let es = held c.args.self.now.recent in
     let tree = (g.H.FileTree.meaning c.args.self.now.below).kind in
-    let k = c.in-Some-recall.kind in
-    let short : fits t ≡ true = short_held c.in-Some.text.bytes.slots c.in-Some.text.bytes.len t (omega arith) c.in-Some.ensures.same_bytes_or_too_many in
-    let known = sym c.in-Some-recall.ensures.kind_if_held in
+    let k = c.in-Some.kind in
+    let short : fits t ≡ true = le-leb (length t) 255 c.if-path-gt-MAX_LEN.false in
+    let known = sym c.in-Some.ensures.kind_if_held in
     let is : k ≡ tree p = agrees_recalled p tree es k c.requires.sound.1 known in
-    let new : held c.recall.new.self ≡ remember p k es = c.in-Some-recall.ensures.becomes_the_latest ∙ renewed_some p es k known in
+    let new : held c.recall.new.self ≡ remember p k es = c.in-Some.ensures.becomes_the_latest ∙ renewed_some p es k known in
     record {
       answer_by_the_meaning = is;
       same_meaning = refl;
@@ -32,10 +35,10 @@ returns g c =
     let es = held c.args.self.now.recent in
     let tree = (g.H.FileTree.meaning c.args.self.now.below).kind in
     let k = c.kind-kind.result in
-    let same : _ ≡ t = c.in-Some.ensures.same_bytes_or_too_many in
-    let short : fits t ≡ true = short_held c.in-Some.text.bytes.slots c.in-Some.text.bytes.len t (omega arith) same in
-    let none : recalled p es ≡ None = sym c.in_default-recall.ensures.kind_if_held in
-    let kept : held c.recall.new.self ≡ es = c.in_default-recall.ensures.becomes_the_latest ∙ renewed_none p es none in
+    let same : bytes_of c.unwrap.result ≡ t = subst (λ (o : Option (Held.Text 255)). MatchOption o (255 < length t) (λ u. bytes_of u ≡ t)) c.unwrap.ensures c.new.ensures.same_bytes_or_too_many in
+    let short : fits t ≡ true = le-leb (length t) 255 c.if-path-gt-MAX_LEN.false in
+    let none : recalled p es ≡ None = sym c.in_default.ensures.kind_if_held in
+    let kept : held c.recall.new.self ≡ es = c.in_default.ensures.becomes_the_latest ∙ renewed_none p es none in
     let is : k ≡ tree p = c.kind-kind.ensures.answer_by_the_meaning in
     let new : held c.remember.new.self ≡ remember p k es =
     c.remember.ensures.becomes_the_latest ∙ ap (λ (u : Text). remember (parts u) k (held c.recall.new.self)) same ∙ ap (remember p k) kept in

@@ -1,4 +1,4 @@
-use Rattle.std.proofs.Common.{◌∷◌, List, map, length, refl, ap, ◌∙◌, arith}
+use Rattle.std.proofs.Common.{◌∷◌, List, map, length, ap, ◌∙◌, arith}
 use Rattle.std.proofs.lemmas.List.{length-take}
 use Rattle.stack.specs.Held as list
 use Rattle.texts.specs.Held.{bytes_of}
@@ -13,9 +13,9 @@ unwrap-requires c = has_room c.push_front.result _ c.push_front.ensures.refused_
 
 pub returns : goal.returns
 returns c =
-    let x : Entry = record { path = c.args.path; kind = c.args.kind } in
+    let x : Entry = c.new-entry.result in
     record {
       becomes_the_latest =
           ap (map seen) (put_first c.push_front.result _ x _ _ c.unwrap.ensures c.push_front.ensures.items_after ∙ ap (λ (xs : List Entry). x ∷ xs) c.truncate.ensures.items_after)
-          ∙ remembered (parts (bytes_of c.args.path)) c.args.kind (list.held c.args.self.now.entries) x refl c.requires.not_held_yet;
+          ∙ remembered (parts (bytes_of c.args.path)) c.args.kind (list.held c.args.self.now.entries) x c.new-entry.ensures.path_with_its_kind c.requires.not_held_yet;
     }

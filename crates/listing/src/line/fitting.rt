@@ -1,19 +1,13 @@
-// One line, and what it says.
-ghost use Rattle.std.specs.Prelude.{◌≡◌, ◌≤◌, [], length};
+// What a line says.
+ghost use Rattle.std.specs.Prelude.{◌≡◌, ◌≤◌, true, [], length};
+ghost use Rattle.texts.specs.Parts.{clean, parts, same_parts};
 ghost use Rattle.listing.specs.Rows.{is_main, is_manifest, kind_listed, row, row_of};
 ghost use Rattle.listing.specs.Meanings.{asked, fits};
 
 use crate::kinds::{LineKind, Topic};
-use texts::{MAX_LEN, Text, same_bytes, same_path};
+use crate::line::Line;
+use texts::{MAX_LEN, Text, is_clean, same_bytes, same_known_path};
 use tree::{Kind, Way};
-
-/// A kind and two texts: a path or a main text and nothing, or a request and a path.
-#[derive(Clone, Copy)]
-pub struct Line {
-    pub(crate) kind: LineKind,
-    pub(crate) first: Text<MAX_LEN>,
-    pub(crate) second: Text<MAX_LEN>,
-}
 
 impl Line {
     // The line without a text, which stands where nothing is listed yet.
@@ -23,6 +17,7 @@ impl Line {
         Line {
             kind: LineKind::File,
             first: Text::empty(),
+            is_clean: false,
             second: Text::empty(),
         }
     }
@@ -35,19 +30,29 @@ impl Line {
         Line {
             kind,
             first: Text::new(first).unwrap(),
+            is_clean: is_clean(first),
             second: Text::new(second).unwrap(),
         }
     }
 
-    // Whether the line decides what is asked about `text`.
-    pub(crate) fn fits(&self, topic: Topic, text: &[u8]) -> bool
+    // Whether the line has the path `text`, of which `is_clean` may say that it is clean.
+    fn has_path(&self, text: &[u8], is_clean: bool) -> bool
+        requires clean_if_so { is_clean ≡ true → clean text.now ≡ true }
+        ensures same_path_part_for_part { result ≡ same_parts (parts (row self.now).first) (parts text.now) }
+    {
+        same_known_path(self.first.as_bytes(), text, self.is_clean && is_clean)
+    }
+
+    // Whether the line decides what is asked about `text`, of which `is_clean` may say that it is a clean path.
+    pub(crate) fn fits(&self, topic: Topic, text: &[u8], is_clean: bool) -> bool
+        requires clean_if_so { is_clean ≡ true → clean text.now ≡ true }
         ensures fits_what_is_asked { result ≡ fits (asked topic text.now) (row self.now) }
     {
         let first = self.first.as_bytes();
         match (topic, self.kind) {
-            (Topic::Kind, LineKind::File | LineKind::Directory) => same_path(first, text),
-            (Topic::Manifest, LineKind::BrokenManifest | LineKind::Manifest) => same_path(
-                first, text,
+            (Topic::Kind, LineKind::File | LineKind::Directory) => self.has_path(text, is_clean),
+            (Topic::Manifest, LineKind::BrokenManifest | LineKind::Manifest) => self.has_path(
+                text, is_clean,
             ),
             (Topic::Lookup(Way::Package), LineKind::Package) => same_bytes(first, text),
             (Topic::Lookup(Way::Hash), LineKind::Hash) => same_bytes(first, text),
