@@ -1,5 +1,5 @@
 // Adding items, taking them out, and reading them.
-ghost use Rattle.std.specs.Prelude.{◌≡◌, ◌+◌, ◌≤◌, [], ◌∷◌, ◌++◌, length, take, is_ok, if◌then◌else◌, nat_le, nat_lt, remove, MatchOption};
+ghost use Rattle.std.specs.Prelude.{◌≡◌, ◌+◌, ◌≤◌, [], ◌∷◌, ◌++◌, length, take, is_ok, if◌then◌else◌, nat_le, nat_lt, remove, slice_set, MatchOption};
 ghost use Rattle.stack.specs.Held.{held};
 ghost use Rattle.stack.specs.Items.{item_at};
 
@@ -68,6 +68,15 @@ impl<T: Copy, const N: usize> ArrayVec<T, N> {
         let slots = &mut self.slots[..];
         slots[0..i + 1].rotate_right(1);
         Some(item)
+    }
+
+    /// The item at `i` gives way to this one; beyond the last nothing changes.
+    pub fn set(&mut self, i: usize, item: T)
+        ensures only_that_item_changes { held self.new ≡ slice_set (held self.old) i item }
+    {
+        if i < self.len {
+            self.slots[i] = item;
+        }
     }
 
     /// Takes items off the end until there are `n`; a list that has no more stays as it was.
