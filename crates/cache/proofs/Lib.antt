@@ -1,2 +1,4 @@
 pub mod Agreement
+pub mod InSlots
 pub mod Moves
+pub mod Order

@@ -1,10 +1,11 @@
 -- What a cache holds, and how a question moves it and the host below. Assumes nothing.
-use Rattle.std.specs.Prelude.{◌≡◌, true, false, List, [], ◌∷◌, map}
+use Rattle.std.specs.Prelude.{◌≡◌, true, false, ℕ, List, [], ◌∷◌, map, slice_index_or}
 use Rattle.stack.specs.Held as list
 use Rattle.texts.specs.Held.{bytes_of}
 use Rattle.texts.specs.Parts.{parts}
 use Rattle.texts.specs.Texts.{Text}
 use Rattle.tree.specs.declared.answers.Kind.{Kind}
+use Rattle.tree.specs.declared.answers.Kind.TheVariants.{Nothing}
 use Rattle.tree.specs.Meanings.{Path, Question, kind_of, manifest_of, lookup_of, forgetting}
 use Rattle.cache.specs.declared.recent.Entry.{Entry}
 use Rattle.cache.specs.declared.recent.Recent.{Recent}
@@ -14,9 +15,13 @@ use Rattle.cache.specs.Seen.{Seen, fresh, holds_text, remember_text}
 abbrev pub seen : Entry → Seen
 seen e = fresh (parts (bytes_of e.path)) e.kind
 
+-- what the entry in a slot holds; no slot beyond the entries is in use
+abbrev pub in_slot : List Entry → ℕ → Seen
+in_slot es i = slice_index_or (map seen es) i (fresh [] Nothing)
+
 -- the paths that are held with their kinds, the latest first
 abbrev pub held : Recent → List Seen
-held s = map seen (list.held s.entries)
+held s = map (in_slot (list.held s.entries)) (list.held s.order)
 
 -- what is held is what the tree has
 abbrev pub Agrees : (Path → Kind) → List Seen → Type 0

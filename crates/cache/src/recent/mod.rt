@@ -1,5 +1,6 @@
 // The kinds of the last paths asked, the latest first. The structs stand alone in their file: the definitions in specs/ name them.
-ghost use Rattle.std.specs.Prelude.{◌≡◌, true};
+ghost use Rattle.std.specs.Prelude.{◌≡◌, ℕ, ◌==◌, true, length, count_by, nat_lt, if◌then◌else◌};
+ghost use Rattle.stack.specs.Held.{held};
 ghost use Rattle.texts.specs.Held.{bytes_of};
 ghost use Rattle.texts.specs.Parts.{clean};
 
@@ -21,7 +22,12 @@ pub struct Entry {
     ghost clean_if_so: { is_clean ≡ true → clean (bytes_of path) ≡ true },
 }
 
+// An entry stays in its slot, since it is much larger than the number of the slot, which moves.
 #[derive(Drop)]
 pub struct Recent {
     entries: ArrayVec<Entry, ROOM>,
+    // the slots of the entries, the latest first
+    order: ArrayVec<u8, ROOM>,
+    ghost each_slot_once: { (i : ℕ) → count_by (λ j. j == i) (held order) ≡ (if nat_lt i (length (held entries)) then 1 else 0) },
+    ghost as_many: { length (held order) ≡ length (held entries) },
 }

@@ -1,9 +1,10 @@
-// What is done with the entries.
-ghost use Rattle.std.specs.Prelude.{◌≡◌, [], None};
+// What is done with the entries and the order of their slots.
+ghost use Rattle.std.specs.Prelude.{◌≡◌, ◌<◌, [], None, length};
+ghost use Rattle.stack.specs.Held as list;
 ghost use Rattle.texts.specs.Held.{bytes_of};
 ghost use Rattle.texts.specs.Parts.{parts};
 ghost use Rattle.cache.specs.Seen.{Placed, fresh, holds, recalled, remember, renewed};
-ghost use Rattle.cache.specs.Held.{held, seen};
+ghost use Rattle.cache.specs.Held.{held, in_slot, seen};
 
 use super::{Entry, ROOM, Recent};
 use stack::ArrayVec;
@@ -29,7 +30,8 @@ impl Recent {
     {
         let blank = Entry::new(Text::empty(), Kind::Nothing);
         let entries = ArrayVec::new(blank);
-        Recent { entries }
+        let order = ArrayVec::new(0);
+        Recent { entries, order }
     }
 
     // Lets go of all that is held.
@@ -37,18 +39,26 @@ impl Recent {
         ensures nothing_held { held self.new ≡ [] }
     {
         self.entries.truncate(0);
+        self.order.truncate(0);
     }
 
-    // Where the path is held.
+    // The entry in a slot that is in use.
+    fn entry(&self, slot: u8) -> &Entry
+        requires in_use { slot < length (list.held self.now.entries) }
+        ensures entry_of_the_slot { seen result.now ≡ in_slot (list.held self.now.entries) slot }
+    {
+        &self.entries.as_slice()[slot as usize]
+    }
+
+    // Where in the order the path is held.
     fn place(&self, path: &[u8]) -> Option<usize>
         ensures place_if_held { Placed (parts path.now) (held self.now) result }
     {
         let is_clean = is_clean(path);
-        self.entries.as_slice().iter().position(|entry| same_known_path(
-            entry.path.as_bytes(),
-            path,
-            is_clean && entry.is_clean,
-        ))
+        self.order.as_slice().iter().position(|slot| {
+            let entry = self.entry(*slot);
+            same_known_path(entry.path.as_bytes(), path, is_clean && entry.is_clean)
+        })
     }
 
     // Whether the path is held.
@@ -64,7 +74,8 @@ impl Recent {
         ensures becomes_the_latest { held self.new ≡ renewed (parts path.now) (held self.old) }
     {
         let i = self.place(path)?;
-        let entry = self.entries.move_to_front(i)?;
+        let slot = self.order.move_to_front(i).unwrap();
+        let entry = self.entry(slot);
         Some(entry.kind)
     }
 
@@ -73,8 +84,15 @@ impl Recent {
         requires not_held_yet { recalled (parts (bytes_of path)) (held self.old) ≡ None }
         ensures becomes_the_latest { held self.new ≡ remember (parts (bytes_of path)) kind (held self.old) }
     {
-        self.entries.truncate(ROOM - 1);
         let entry = Entry::new(path, kind);
-        self.entries.push_front(entry).unwrap();
+        let count = self.order.as_slice().len();
+        // A slot of its own while there is room, and then the slot of the path asked longest ago.
+        if count < ROOM {
+            self.entries.push(entry).unwrap();
+            self.order.push_front(count as u8).unwrap();
+        } else {
+            let oldest = self.order.move_to_front(ROOM - 1).unwrap();
+            self.entries.set(oldest as usize, entry);
+        }
     }
 }
