@@ -1,5 +1,6 @@
 pub mod Cases
 pub mod Lists
+pub mod Remaining
 pub mod Replayed
 pub mod Scores
 pub mod Summaries
