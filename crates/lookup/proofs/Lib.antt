@@ -1,5 +1,6 @@
 pub mod Answering
 pub mod Areas
+pub mod AttemptMoves
 pub mod Beginning
 pub mod Bounds
 pub mod CallSteps
@@ -9,14 +10,12 @@ pub mod Firsts
 pub mod Fitting
 pub mod Holding
 pub mod Keeping
-pub mod LabelMoves
 pub mod Nesting
 pub mod Obeying
 pub mod Piles
 pub mod Quiet
 pub mod RoundMoves
 pub mod TakingApart
-pub mod TestMoves
 pub mod Towers
 pub mod TryMoves
 pub mod TurnMoves

@@ -76,23 +76,22 @@ pub record Sound (limit : ℕ) (c : ResolveContext) : Type 0 where
   pub query : MarksIn c.rounds c.query
   pub fragment : MarksIn c.rounds c.fragment
 
--- a request whose labels are tried: its texts lie below the path that is looked for
-pub record Labelled (c : ResolveContext) (a : Asked) : Type 0 where
-  pub directory : Before (256 * (first_unit a.round + 3)) a.directory
-  pub text : Before (256 * (first_unit a.round + 3)) a.text
+-- what is asked in a round that has begun: its texts lie below so many units of that round
+pub record Stands (units : ℕ) (c : ResolveContext) (a : Asked) : Type 0 where
+  pub directory : Before (256 * (first_unit a.round + units)) a.directory
+  pub text : Before (256 * (first_unit a.round + units)) a.text
   pub short : a.text.len ≤ 255
   pub begun : a.round < c.rounds
   pub query : MarksIn c.rounds c.query
   pub fragment : MarksIn c.rounds c.fragment
 
+-- a request whose labels are tried: its texts lie below the path that is looked for
+abbrev pub Labelled : ResolveContext → Asked → Type 0
+Labelled = Stands 3
+
 -- a candidate whose labels are tried: its texts lie below the texts of attempts
-pub record Testing (c : ResolveContext) (a : Asked) : Type 0 where
-  pub directory : Before (256 * (first_unit a.round + 5)) a.directory
-  pub text : Before (256 * (first_unit a.round + 5)) a.text
-  pub short : a.text.len ≤ 255
-  pub begun : a.round < c.rounds
-  pub query : MarksIn c.rounds c.query
-  pub fragment : MarksIn c.rounds c.fragment
+abbrev pub Testing : ResolveContext → Asked → Type 0
+Testing = Stands 5
 
 -- a path whose candidates are tried: its texts lie below the texts of candidates
 pub record Trying (c : ResolveContext) (a : Asked) (p : Place) : Type 0 where
