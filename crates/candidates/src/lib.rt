@@ -1,4 +1,4 @@
-// The candidates of a path, formed one at a time. No labels and no rounds.
+// The candidates of a path, formed one at a time. Labels and rounds have no part in them.
 #![tactic(auto)]
 
 mod forming;

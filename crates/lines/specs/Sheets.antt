@@ -8,7 +8,7 @@ use Rattle.lines.specs.declared.Refusal.{Refusal}
 use Rattle.lines.specs.declared.Refusal.TheVariants.{BadLine}
 use Rattle.lines.specs.declared.Row.{Row}
 
--- the number that an answer gives for a refusal
+-- the number that a refused line is told by
 abbrev pub number_of : Refusal → ℕ
 number_of BadLine = 15
 

@@ -18,7 +18,7 @@ pub use split::first_line;
 /// How long the head of a line is: three columns, with a blank behind each.
 pub const HEAD_LEN: usize = 12;
 
-/// Why a sheet is refused.
+/// Why a line is refused: it has not its three columns, or not the texts of these lengths behind them.
 #[derive(Clone, Copy, PartialEq, Eq, Debug)]
 pub enum Refusal {
     BadLine = 15,
@@ -26,7 +26,7 @@ pub enum Refusal {
 
 impl Refusal {
     // The discriminant, by a name that a `From` would not give.
-    /// The number that an answer gives for it.
+    /// The number that a refused line is told by.
     pub fn number(self) -> u8
         ensures gives_its_number { result ≡ number_of self }
     {

@@ -95,6 +95,6 @@ normal (p ∷ ps) = cond (bytes_eq p root) (walked root ps) (walked [] (p ∷ ps
 unfoldable pub normalize : Text → Text
 normalize s = normal (parts s)
 
--- a text normalized; none where it is no text for its length
+-- a text normalized; none where it has more than 255 bytes
 abbrev pub normalized : Text → Option Text
 normalized s = cond (fits s) (Some (normalize s)) None

@@ -39,7 +39,7 @@ abbrev pub some_empty : List Text → Bool
 some_empty [] = false
 some_empty (t ∷ ts) = empty t || some_empty ts
 
--- a path is tried only with an extension: left to itself, where an extension is empty
+-- a path is tried only with an extension: under auto, where one of the extensions is empty
 abbrev pub enforces : EnforceExtension → List Text → Bool
 enforces Enabled extensions = true
 enforces Disabled extensions = false

@@ -8,13 +8,13 @@ ghost use Rattle.settings.specs.declared.refusals.Refusal.TheVariants as refusal
 pub enum Refusal {
     /// A label that has no character, or more than 32.
     LabelLength = 10,
-    /// Another length, or a byte outside 32 to 126.
+    /// Another text of a wrong length, a text where the kind has none, or a byte outside 32 to 126.
     Text = 11,
     /// The table is full.
     Full = 12,
-    /// A restriction that is not clean, an extension without its dot, a slash in a name, or no such flag.
+    /// A restriction that is not clean, an extension without its dot, a slash in an extension or a main file, no such flag, or no such setting of it.
     Form = 13,
-    /// A value before any label.
+    /// A value or an ignore before any label.
     ValueBeforeLabel = 14,
     /// The columns are not those of a line, or there is no such kind.
     Kind = 15,

@@ -25,7 +25,7 @@ ClosedTablesStay =
 abbrev pub LaterLinesOnlyAdd : Type 0
 LaterLinesOnlyAdd = (s : State) (lines : List Text) → (more : List Todo) × ((after_lines s lines).todo ≡ s.todo ++ more)
 
--- to forget never shows: the rows are those without it
+-- to forget never shows: what is left to do is answered by the same rows with a forget in it and without
 abbrev pub ForgettingNeverShows : Type 0
 ForgettingNeverShows =
     (m : Meaning) (allowed : Allowed) (t : Tables) (before behind : List Todo) → rows_of m allowed t (before ++ forget ∷ behind) ≡ rows_of m allowed t (before ++ behind)

@@ -18,7 +18,7 @@ use settings::Settings;
 use std::alloc::{AllocError, Global};
 use texts::Place;
 
-// Numbers, since a sheet may write any.
+// Kinds are numbers here, since a sheet may write any.
 // The kind of a line that resolves a request.
 const RESOLVES: u16 = 40;
 

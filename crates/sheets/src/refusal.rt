@@ -12,7 +12,7 @@ pub enum Refusal {
     Listing(listing::Refusal),
     /// The settings do not take it.
     Setting(settings::Refusal),
-    /// It lets go, and a text follows.
+    /// It is of the kind that lets go, and has a text.
     Texts,
     /// It is an entry behind the first call.
     Closed,

@@ -98,8 +98,8 @@ impl Specifier {
         })
     }
 
+    // The caller lends the buffer, by a rule of the project.
     /// Copies the path of `request` without its escapes to the front of `out`, and says how long it is; none, and `out` as it was, if it does not fit.
-    // The memory is lent by the caller, by a rule of the project, so the length stands beside it.
     pub fn write_path(self, request: &[u8], out: &mut [u8]) -> Option<usize>
         ensures length_if_it_fits { result ≡ length_in (Some (unescaped (text_at request.now self.path))) (length out.old) }
         ensures bytes_if_it_fits { out.new ≡ buffer_with (Some (unescaped (text_at request.now self.path))) out.old }

@@ -2,8 +2,9 @@
 ghost use Rattle.std.specs.Prelude.{◌≡◌};
 ghost use Rattle.tree.specs.Acceptances.{Allowed};
 
+/// A policy: it says yes or no to a path's bytes, and no question alters it.
 pub trait Policy {
-    // The answers, which no question alters.
+    // What it says of each path.
     ghost allowed: { Self → Allowed };
 
     /// Whether the path is allowed.

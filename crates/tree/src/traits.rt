@@ -28,6 +28,7 @@ pub trait FileTree {
         ensures still_sound { sound self.new }
         ensures steps_on { steps self.old (kind_of path.now) self.new };
 
+    // The meaning of what is sound keeps the limits of a host.
     ghost proper: { (s : Self) → sound s → Proper (meaning s) };
 }
 

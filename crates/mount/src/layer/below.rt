@@ -8,7 +8,7 @@ use crate::layer::Mount;
 use texts::{Components, same_bytes};
 
 impl<A, B> Mount<A, B> {
-    // What is left of `path` below the mount, as a path of its own. A `zip` would lose it.
+    // What is left of `path` below the mount, as a path of its own. By hand: a `zip` would keep the rest of `found` to itself.
     pub(crate) fn below<'a>(&self, path: &'a [u8]) -> Option<&'a [u8]>
         ensures rest_below_the_mount { MatchOption result (stripped (parts (bytes_of self.now.at)) (parts path.now) ≡ None) (λ t. (stripped (parts (bytes_of self.now.at)) (parts path.now) ≡ Some (parts t.now)) × (length t.now ≤ max 1 (length path.now))) }
     {

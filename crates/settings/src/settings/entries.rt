@@ -56,7 +56,7 @@ impl Settings {
         Ok(())
     }
 
-    // An entry, the call of a setup page and the line loader are three functions by a decision of the project, so each table has a call.
+    // An entry, the call of a setup page and the line loader are three functions by a rule of the project, so each table has a call.
 
     /// Adds a label, behind the others and without values.
     pub fn add_alias(&mut self, label: &[u8]) -> Result<(), Refusal>

@@ -66,7 +66,7 @@ impl Settings {
         self.resolve_to_context
     }
 
-    /// Whether a path is tried only with an extension: as set, or, left to itself, if an extension is empty.
+    /// Whether a path is tried only with an extension: as set; under auto, if one of the extensions is empty.
     pub fn enforces_extension(&self) -> bool
         ensures set_or_by_an_empty_extension { result ≡ enforced (tables self.now) }
     {
