@@ -1,4 +1,4 @@
--- What a mount's path has, and what both hosts together keep. Assumes nothing.
+-- Lemmas for the law of a mount, which cites no proofs/: what its path has, and what both hosts together keep. Assumes nothing.
 use Rattle.std.specs.Prelude.{◌≡◌, ◌+◌, ◌<◌, ◌≤◌, Bool, true, false, cond, ◌&&◌, List, [], ◌∷◌, ◌++◌, length, Some, None, Option, nat_le, refl}
 use Rattle.std.proofs.Common.{sym, ap, ◌∙◌, arith}
 use Rattle.std.specs.List.{AllByRecursion}

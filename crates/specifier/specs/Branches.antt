@@ -6,7 +6,7 @@ use Rattle.specifier.specs.declared.branch.Branch.TheVariants.{Absolute, Relativ
 use Rattle.texts.specs.Parts.{root, here, above, parts}
 use Rattle.texts.specs.Texts.{Text, HASH, begins}
 
--- the way of a text with these parts: the root leads to the root, `.` and `..` to where the request stands, and `#` to the package's own imports
+-- the way of a text with these parts: absolute with the root in front, relative with `.` or `..` in front; of the others hash lookup if the text begins with `#`, and package lookup for all else
 abbrev pub way : Text → List Text → Branch
 way s [] = Package
 way s (p ∷ ps) = cond (bytes_eq p root) Absolute (cond (bytes_eq p here || bytes_eq p above) Relative (cond (begins HASH s) Hash Package))

@@ -73,7 +73,7 @@ FoundWell (found p) = (begins SLASH p ≡ true) × (length p ≤ 255)
 FoundWell missing = Unit {0}
 FoundWell faulty = Unit {0}
 
--- what every meaning keeps: the empty list is nothing, a manifest has at most 255 main texts of at most 32 bytes, found paths are well
+-- what every meaning keeps: the empty list is nothing, a manifest has at most 255 main texts of at most 32 bytes, a found path begins with a slash and has at most 255 bytes
 pub record Proper (m : Meaning) : Type 0 where
   pub nowhere : m.kind [] ≡ Nothing
   pub few_mains : (p : Path) → length (mains (m.manifest p)) ≤ 255
