@@ -7,9 +7,9 @@ use Rattle.tree.specs.Meanings.{Meaning}
 use Rattle.settings.specs.Tables.{Tables}
 use Rattle.lookup.specs.declared.resolution.Resolution.{Resolution}
 use Rattle.lookup.specs.Faults.{Fault, bad_directory, bad_request, broken_lookup, broken_manifest, empty_request, ignored, long_text, no_memory, not_found, number, recursion, texts, unmatched}
-use Rattle.lookup.specs.Outcomes.{Outcome, Room, answer, buffers_after, path, refused, written}
+use Rattle.lookup.specs.Outcomes.{Outcome, Room, answer, buffers_after, path, refused, room_of, written}
 use Rattle.lookup.specs.Resolutions.{error_number, error_of, length_of, resolution_of}
-use Rattle.resolver.specs.Runs.{Buffers, room_of}
+use Rattle.resolver.specs.Runs.{Buffers}
 use Rattle.explain.specs.Ends.{end_of, front_text, in_path, in_refusal, lent, told_end}
 
 -- a text that was written to a buffer stands at its front

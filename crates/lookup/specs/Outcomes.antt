@@ -47,6 +47,10 @@ pub record Room : Type 0 where
   pub second : ℕ
   pub third : ℕ
 
+-- as much as is lent: the text area, the rows and the three buffers
+abbrev pub room_of : {Row : Type 0} → List ℕ → List Row → List ℕ → List ℕ → List ℕ → Room
+room_of area rows first second third = record { area = length area; rows = length rows; first = length first; second = length second; third = length third }
+
 abbrev pub roomy : Room → Bool
 roomy r = nat_le 131072 r.area && (nat_le 1024 r.rows && (nat_le 255 r.first && (nat_le 255 r.second && nat_le 255 r.third)))
 

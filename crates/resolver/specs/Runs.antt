@@ -1,5 +1,5 @@
 -- What a resolver was asked since it was new, whoever asked and with whatever memory. Assumes nothing.
-use Rattle.std.specs.Prelude.{◌≡◌, ℕ, ◌+◌, List, [], ◌∷◌, Ok, Err, Result, length, min}
+use Rattle.std.specs.Prelude.{◌≡◌, ℕ, ◌+◌, List, [], ◌∷◌, Ok, Err, Result, min}
 use Rattle.texts.specs.Texts.{Text}
 use Rattle.tree.specs.Acceptances.{Allowed}
 use Rattle.tree.specs.Meanings.{Meaning}
@@ -17,10 +17,6 @@ ceiling = 4294967295
 -- what the three buffers hold
 abbrev pub Buffers : Type 0
 Buffers = List ℕ × (List ℕ × List ℕ)
-
--- how much is lent to a call: text area, rows and three buffers
-abbrev pub room_of : {Row : Type 0} → List ℕ → List Row → List ℕ → List ℕ → List ℕ → Room
-room_of area rows first second third = record { area = length area; rows = length rows; first = length first; second = length second; third = length third }
 
 -- a call as it went: a resolve with its directory, request, room, its answer, and the buffers before and after it; a forget; a tally with its answer
 pub data Event : Type 0 where

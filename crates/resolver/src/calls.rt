@@ -1,10 +1,10 @@
 // What a resolver can be asked: to resolve a request, to forget, and how many paths it has handed out.
 ghost use Rattle.std.specs.Prelude.{◌≡◌, ◌≤◌, ◌+◌, List, [], ◌∷◌, ◌++◌, length, min};
 ghost use Rattle.lookup.specs.Blank.{blank_call};
-ghost use Rattle.lookup.specs.Outcomes.{answer, area_after, buffers_after, refusal, rounds_at_most, rows_after};
+ghost use Rattle.lookup.specs.Outcomes.{answer, area_after, buffers_after, refusal, room_of, rounds_at_most, rows_after};
 ghost use Rattle.lookup.specs.Resolutions.{resolution_of};
 ghost use Rattle.resolver.specs.Handed.{FirstCandidate, NotFoundIfNone, OnlyAcceptablePaths};
-ghost use Rattle.resolver.specs.Runs.{Event, Reached, asked, ceiling, forgot, paths_in, room_of, tallied};
+ghost use Rattle.resolver.specs.Runs.{Event, Reached, asked, ceiling, forgot, paths_in, tallied};
 ghost use Rattle.tree.specs.Meanings.{forgetting};
 ghost use Rattle.settings.specs.Meant.{tables};
 

@@ -4,7 +4,7 @@ ghost use Rattle.settings.specs.Meant.{tables};
 ghost use Rattle.lookup.specs.Blank.{blank_call};
 ghost use Rattle.lookup.specs.Opened.{Short, ended};
 ghost use Rattle.lookup.specs.Turns.{Sound};
-ghost use Rattle.lookup.specs.Outcomes.{answer, area_after, buffers_after, outcome_of, refusal, roomy, rows_after};
+ghost use Rattle.lookup.specs.Outcomes.{answer, area_after, buffers_after, outcome_of, refusal, room_of, roomy, rows_after};
 ghost use Rattle.lookup.specs.Resolutions.{early_error, resolution_of};
 ghost use Rattle.texts.specs.Taken.{taken_unless};
 
@@ -26,7 +26,7 @@ const ROUND_ROWS: usize = 16;
 
 // Whether as much memory is lent as a call asks for.
 fn is_roomy(area: &[u8], rows: &[OpenCall], first: &[u8], second: &[u8], third: &[u8]) -> bool
-    ensures as_much_as_is_asked_for { result ≡ roomy (record { area = length area.now; rows = length rows.now; first = length first.now; second = length second.now; third = length third.now }) }
+    ensures as_much_as_is_asked_for { result ≡ roomy (room_of area.now rows.now first.now second.now third.now) }
 {
     area.len() >= ROUND_BYTES * ROUNDS
         && rows.len() >= ROUND_ROWS * ROUNDS
@@ -112,10 +112,10 @@ pub fn answer_call<H: Host, P: Policy>(
     third: &mut [u8],
 ) -> Resolution
     requires sound { H.FileTree.sound host.old }
-    ensures answered_as_defined { result ≡ resolution_of (answer (H.FileTree.meaning host.old) (P.Policy.allowed policy.now) (tables settings.now) (record { area = length area.old; rows = length rows.old; first = length first.old; second = length second.old; third = length third.old }) directory.now request.now) }
-    ensures buffers_as_defined { (first.new, (second.new, third.new)) ≡ buffers_after (answer (H.FileTree.meaning host.old) (P.Policy.allowed policy.now) (tables settings.now) (record { area = length area.old; rows = length rows.old; first = length first.old; second = length second.old; third = length third.old }) directory.now request.now) (first.old, (second.old, third.old)) }
-    ensures area_as_defined { area.new ≡ area_after (refusal (record { area = length area.old; rows = length rows.old; first = length first.old; second = length second.old; third = length third.old }) directory.now request.now) area.old }
-    ensures rows_as_defined { rows.new ≡ rows_after blank_call (refusal (record { area = length area.old; rows = length rows.old; first = length first.old; second = length second.old; third = length third.old }) directory.now request.now) rows.old }
+    ensures answered_as_defined { result ≡ resolution_of (answer (H.FileTree.meaning host.old) (P.Policy.allowed policy.now) (tables settings.now) (room_of area.old rows.old first.old second.old third.old) directory.now request.now) }
+    ensures buffers_as_defined { (first.new, (second.new, third.new)) ≡ buffers_after (answer (H.FileTree.meaning host.old) (P.Policy.allowed policy.now) (tables settings.now) (room_of area.old rows.old first.old second.old third.old) directory.now request.now) (first.old, (second.old, third.old)) }
+    ensures area_as_defined { area.new ≡ area_after (refusal (room_of area.old rows.old first.old second.old third.old) directory.now request.now) area.old }
+    ensures rows_as_defined { rows.new ≡ rows_after blank_call (refusal (room_of area.old rows.old first.old second.old third.old) directory.now request.now) rows.old }
     ensures same_meaning { H.FileTree.meaning host.new ≡ H.FileTree.meaning host.old }
     ensures still_sound { H.FileTree.sound host.new }
 {

@@ -2,8 +2,8 @@ use Rattle.std.proofs.Common.{◌∷◌, [], ◌++◌, ap, sym, subst}
 use Rattle.tree.specs.Meanings.{Meaning}
 use Rattle.settings.specs.Meant.{tables}
 use Rattle.settings.proofs.Limited.{within_limits}
-use Rattle.lookup.specs.Outcomes.{Room}
-use Rattle.resolver.specs.Runs.{Buffers, Event, Reached, asked, resolved_right, room_of}
+use Rattle.lookup.specs.Outcomes.{Room, room_of}
+use Rattle.resolver.specs.Runs.{Buffers, Event, Reached, asked, resolved_right}
 use Rattle.resolver.proofs.Handed.{few_rounds, first_candidate, not_found_if_none, only_acceptable}
 use Rattle.resolver.proofs.Runs.{reached_then}
 use Rattle.resolver.proofs.Resolver.resolve.Goals as goal

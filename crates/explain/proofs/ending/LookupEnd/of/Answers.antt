@@ -1,7 +1,8 @@
 use Rattle.std.proofs.Common.{◌≡◌, ℕ, List, length, replicate, ap, arith}
 use Rattle.std.proofs.lemmas.List.{length-replicate}
 use Rattle.settings.specs.Meant.{tables}
-use Rattle.resolver.specs.Runs.{Buffers, room_of}
+use Rattle.lookup.specs.Outcomes.{room_of}
+use Rattle.resolver.specs.Runs.{Buffers}
 use Rattle.explain.proofs.EndSteps.{ends_as_defined, room_is_lent}
 use Rattle.explain.proofs.ending.LookupEnd.of.Goals as goal
 
