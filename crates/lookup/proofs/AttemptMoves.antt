@@ -16,13 +16,13 @@ use Rattle.lookup.specs.declared.calls.Asked.{Asked}
 use Rattle.lookup.specs.declared.calls.OpenCall.{OpenCall}
 use Rattle.lookup.specs.declared.calls.Move.{Move}
 use Rattle.lookup.specs.declared.calls.Move.TheVariants.{Open, Return}
-use Rattle.lookup.specs.Areas.{Before, OnlyIn}
+use Rattle.lookup.specs.Areas.{OnlyIn}
 use Rattle.lookup.specs.Attempted.{Next}
 use Rattle.lookup.specs.Calls.{again, plugged, resumed, waiting}
 use Rattle.lookup.specs.Lookups.{Context, Ended, by_way, ends_in, failed, missed, or_next, or_value, tries}
 use Rattle.lookup.specs.Moves.{candidate_moves, candidates_most, weight, weights}
-use Rattle.lookup.specs.Opened.{MarksIn, context_of, fault_of, first_unit, free_unit, shown}
-use Rattle.lookup.specs.Turns.{EndsShort, Follows, Kept, Labelled, Moved, Testing, came_back, height, labels_row, loosened, round_row, rows_of, test_row}
+use Rattle.lookup.specs.Opened.{context_of, fault_of, first_unit, free_unit, shown}
+use Rattle.lookup.specs.Turns.{EndsShort, Follows, Kept, Labelled, Moved, Stands, Testing, came_back, height, labels_row, loosened, round_row, rows_of, test_row}
 use Rattle.lookup.proofs.Areas.{front_stays, text_in_front_stays}
 use Rattle.lookup.proofs.Contexts.{context_stays}
 
@@ -36,11 +36,7 @@ pub record TriesLabels (m : Meaning) (allowed : Allowed) (t : Tables) (limit : �
   pub goes_on : (p q : Progress) → Follows c.rounds (row p) 0 (row q)
   pub free : (p : Progress) → free_unit (row p) ≤ first_unit from.round + 5
   pub high : (p : Progress) → height (row p) ≤ 3 * from.round + 3
-  pub directory : Before (256 * (first_unit from.round + 5)) from.directory
-  pub text : Before (256 * (first_unit from.round + 5)) from.text
-  pub begun : from.round < c.rounds
-  pub query : MarksIn c.rounds c.query
-  pub fragment : MarksIn c.rounds c.fragment
+  pub stands : Stands 5 c from
 
 module _
     {m : Meaning} {allowed : Allowed} {t : Tables} {limit : ℕ} {c : ResolveContext} {row : Progress → OpenCall} {from : Asked} {rest : Text → Text → Context → Ended} {more : ℕ}
@@ -58,13 +54,13 @@ module _
     only = subst (λ (n : ℕ). OnlyIn (n + 5) w u) unit written
 
     directory_stays : text_at u from.directory ≡ dir
-    directory_stays = text_in_front_stays (first_unit from.round + 5) w u from.directory only h.directory
+    directory_stays = text_in_front_stays (first_unit from.round + 5) w u from.directory only h.stands.directory
 
     text_stays : text_at u from.text ≡ r
-    text_stays = text_in_front_stays (first_unit from.round + 5) w u from.text only h.text
+    text_stays = text_in_front_stays (first_unit from.round + 5) w u from.text only h.stands.text
 
     marks_kept : context_of u c ≡ context_of w c
-    marks_kept = context_stays from.round 5 w u c (omega arith) (omega arith) only h.query h.fragment
+    marks_kept = context_stays from.round 5 w u c (omega arith) (omega arith) only h.stands.query h.stands.fragment
 
     front_kept : take (256 * free_unit (row p)) u ≡ take (256 * free_unit (row p)) w
     front_kept = front_stays (first_unit from.round + 5) (256 * free_unit (row p)) w u only (omega (arith, h.free p))
@@ -75,13 +71,13 @@ module _
     -- an attempt that starts a round
     module _ (x : Place) (is : attempt ≡ Some (Ok x)) where
       loosened_stays : context_of u (loosened c) ≡ context_of w (loosened c)
-      loosened_stays = context_stays from.round 5 w u (loosened c) (omega arith) (omega arith) only h.query h.fragment
+      loosened_stays = context_stays from.round 5 w u (loosened c) (omega arith) (omega arith) only h.stands.query h.stands.fragment
 
       starts : Follows c.rounds (row p) 1 (round_row from x)
       starts =
           let a = at (Some (Ok x)) is in record {
-            placed = record { directory = omega (arith, h.directory); text = omega (arith, a.1, a.2, unit); short = a.2; stage = tt };
-            begun = omega (arith, h.begun);
+            placed = record { directory = omega (arith, h.stands.directory); text = omega (arith, a.1, a.2, unit); short = a.2; stage = tt };
+            begun = omega (arith, h.stands.begun);
             free = omega (arith, h.free p);
             room = omega (arith, h.high p);
           }
@@ -101,7 +97,7 @@ module _
             ∙ sym (h.told u q (resumed m allowed t limit (waiting (text_at u from.directory) (text_at u x)) (missed (context_of u (loosened c)))));
         falls = omega (arith, h.weighs w p, h.weighs u q, one_less, as_many);
         kept = (h.goes_on p q, starts, omega (arith, h.free q));
-        sound = record { few = few; query = h.query; fragment = h.fragment };
+        sound = record { few = few; query = h.stands.query; fragment = h.stands.fragment };
         later = omega arith;
         below = front_kept;
         long = only.long;
@@ -118,7 +114,7 @@ module _
       means = h.told w p (missed (context_of w c)) ∙ does;
       falls = omega (arith, fewer, h.weighs w p);
       kept = kept;
-      sound = record { few = few; query = h.query; fragment = h.fragment };
+      sound = record { few = few; query = h.stands.query; fragment = h.stands.fragment };
       later = omega arith;
       below = below ∙ front_kept;
       long = long ∙ only.long;
@@ -159,11 +155,7 @@ module _ (m : Meaning) (allowed : Allowed) (t : Tables) (limit : ℕ) {c : Resol
     };
     free = λ p. omega arith;
     high = λ p. omega arith;
-    directory = omega (arith, h.directory);
-    text = omega (arith, h.text);
-    begun = h.begun;
-    query = h.query;
-    fragment = h.fragment;
+    stands = record { directory = omega (arith, h.directory); text = omega (arith, h.text); short = h.short; begun = h.begun; query = h.query; fragment = h.fragment };
   }
 
   -- a candidate from itself, which must be acceptable where no attempt makes anything of it
@@ -179,9 +171,5 @@ module _ (m : Meaning) (allowed : Allowed) (t : Tables) (limit : ℕ) {c : Resol
     };
     free = λ p. omega arith;
     high = λ p. omega arith;
-    directory = h.text;
-    text = h.text;
-    begun = h.begun;
-    query = h.query;
-    fragment = h.fragment;
+    stands = record { directory = h.text; text = h.text; short = h.short; begun = h.begun; query = h.query; fragment = h.fragment };
   }
