@@ -1,11 +1,11 @@
 -- Accepted requests are short, so that no text on the way is refused. Assumes nothing.
-use Rattle.std.proofs.Common.{◌≡◌, ℕ, suc, ◌-◌, ◌<◌, ◌≤◌, Bool, true, false, cond, ◌&&◌, eqb, leb, List, [], ◌∷◌, length, take, is_some, Some, None, Ok, Err, Option, sym, refl, ap, ◌∙◌, arith, MatchOption}
+use Rattle.std.proofs.Common.{◌≡◌, ℕ, ◌-◌, ◌<◌, ◌≤◌, true, ◌&&◌, leb, List, length, take, is_some, Some, None, Ok, Err, Option, sym, refl, ap, ◌∙◌, arith, MatchOption}
 use Rattle.std.specs.Option.{option_map}
 use Rattle.std.proofs.lemmas.List.{length-drop, length-take}
 use Rattle.std.proofs.lemmas.Bool.{and_parts, cond-true, le-leb, leb-true}
 use Rattle.texts.specs.Held.{bytes_of}
 use Rattle.texts.specs.declared.text.Text as held
-use Rattle.texts.specs.Texts.{Text, SLASH, ascii, empty, buffer_with, length_in, unslashed}
+use Rattle.texts.specs.Texts.{Text, ascii, buffer_with, length_in, unslashed}
 use Rattle.texts.specs.Parts.{clean}
 use Rattle.specifier.specs.declared.branch.Branch.{Branch}
 use Rattle.specifier.specs.declared.branch.Branch.TheVariants.{Absolute, Relative, Hash, Package}
@@ -13,37 +13,23 @@ use Rattle.specifier.specs.declared.request.Specifier.{Specifier}
 use Rattle.specifier.specs.declared.request.SpecifierError.{SpecifierError}
 use Rattle.specifier.specs.Accepted.{askable, startable}
 use Rattle.specifier.specs.Branches.{branch}
-use Rattle.specifier.specs.Requests.{escapes, fragment_of, path_of, query_of, raw_path, specifier_of, unescaped}
+use Rattle.specifier.specs.Requests.{fragment_of, path_of, query_of, raw_path, specifier_of}
 use Rattle.specifier.specs.Sought.{sought_on, sought_path}
 use Rattle.paths.specs.Joins.{join, joined}
 use Rattle.paths.proofs.JoinLaws.{join_short}
 use Rattle.texts.proofs.Buffers.{went_in}
 use Rattle.texts.proofs.PartLoops.{some≢none}
+use Rattle.specifier.proofs.Copies.{unescaped_le}
+use Rattle.lookup.proofs.Areas.{unslashed_short}
 use Rattle.explain.specs.declared.refusal.Refusal.TheVariants.{Empty}
 use Rattle.explain.specs.Readings.{Meaning, looks, meant, meant_by, within}
-
-unslashed_short : (s : Text) → length (unslashed s) ≤ length s
-unslashed_short [] = omega arith
-unslashed_short (b ∷ s) = at (empty (unslashed s) && eqb b SLASH) (unslashed_short s)
-  where
-    at : (v : Bool) → length (unslashed s) ≤ length s → length (cond v [] (b ∷ unslashed s)) ≤ suc (length s)
-    at true h = omega arith
-    at false h = omega arith
-
-unescaped_short : (s : Text) → length (unescaped s) ≤ length s
-unescaped_short [] = omega arith
-unescaped_short (b ∷ s) = at (escapes (b ∷ s)) (unescaped_short s)
-  where
-    at : (v : Bool) → length (unescaped s) ≤ length s → length (cond v (unescaped s) (b ∷ unescaped s)) ≤ suc (length s)
-    at true h = omega arith
-    at false h = omega arith
 
 pub path_short : (request : Text) → askable request ≡ true → length (path_of request) ≤ 96
 unfolding path_of
 path_short request h =
     let short : length request ≤ 96 = leb-true _ _ (and_parts (leb (length request) 96) (ascii request) h).0 in
     let taken : length (raw_path request) ≤ length request = simp (length-take, length-drop) (omega arith) in
-    omega (arith, unescaped_short (raw_path request))
+    omega (arith, unescaped_le (raw_path request))
 
 -- accepted requests look for a path on the absolute and the relative way
 pub sought_there : (directory request : Text) → startable directory ≡ true → askable request ≡ true → is_some (sought_path directory (path_of request)) ≡ looks (branch (path_of request))

@@ -6,29 +6,18 @@ use Rattle.tree.specs.Acceptances.{Allowed}
 use Rattle.tree.specs.Meanings.{Meaning}
 use Rattle.settings.specs.Tables.{Tables}
 use Rattle.lookup.specs.declared.resolution.Resolution.{Resolution}
-use Rattle.lookup.specs.Faults.{Fault, bad_directory, bad_request, broken_lookup, broken_manifest, empty_request, ignored, long_text, no_memory, not_found, number, recursion, texts, unmatched}
+use Rattle.lookup.specs.Faults.{texts}
 use Rattle.lookup.specs.Outcomes.{Outcome, Room, answer, buffers_after, path, refused, room_of, written}
-use Rattle.lookup.specs.Resolutions.{error_number, error_of, length_of, resolution_of}
+use Rattle.lookup.specs.Resolutions.{length_of, resolution_of}
+use Rattle.lookup.proofs.Answering.{same_number}
 use Rattle.resolver.specs.Runs.{Buffers}
-use Rattle.explain.specs.Ends.{end_of, front_text, in_path, in_refusal, lent, told_end}
+use Rattle.sheets.specs.Rows.{lent}
+use Rattle.explain.specs.Ends.{end_of, front_text, in_path, in_refusal, told_end}
 
 -- a text that was written to a buffer stands at its front
 front_written : (t : Option Text) (b : List ℕ) → front_text (length_of t) (written t b) ≡ t
 front_written None b = refl
 front_written (Some t) b = ap Some (take-append_seam t (drop (length t) b))
-
-same_number : (f : Fault) → error_number (error_of f) ≡ number f
-same_number no_memory = refl
-same_number bad_directory = refl
-same_number bad_request = refl
-same_number (empty_request t) = refl
-same_number (not_found t) = refl
-same_number (unmatched r l) = refl
-same_number (ignored p) = refl
-same_number recursion = refl
-same_number long_text = refl
-same_number (broken_manifest p) = refl
-same_number (broken_lookup t) = refl
 
 told_as_defined : (o : Outcome) (b : Buffers) → told_end (resolution_of o).outcome (resolution_of o).rounds (buffers_after o b) ≡ end_of o
 told_as_defined (path p q f n) b =

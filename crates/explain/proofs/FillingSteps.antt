@@ -1,9 +1,9 @@
 -- One line more, and where filling stops. Assumes nothing.
-use Rattle.std.proofs.Common.{◌≡◌, ℕ, zero, suc, ◌+◌, ◌<◌, ◌≤◌, Bool, true, false, cond, ◌||◌, [], ◌∷◌, length, refl, ◌∙◌, arith}
+use Rattle.std.proofs.Common.{◌≡◌, ℕ, zero, suc, ◌≤◌, Bool, true, false, cond, ◌||◌, length, refl, ◌∙◌, arith}
 use Rattle.std.proofs.lemmas.Bool.{cond-false}
-use Rattle.std.proofs.lemmas.List.{length-drop}
-use Rattle.texts.specs.Texts.{Text, empty, until}
-use Rattle.lines.specs.Sheets.{LINE_END, behind_line, line_of}
+use Rattle.texts.specs.Texts.{empty}
+use Rattle.lines.specs.Sheets.{behind_line, line_of}
+use Rattle.sheets.proofs.LineSteps.{behind_shorter}
 use Rattle.explain.specs.Filling.{Front, after_line, asks, filled}
 
 -- nothing is left, or the next line asks
@@ -16,15 +16,8 @@ stops_here (suc n) s h = at (empty s.rest) (asks (line_of s.rest)) _ h
     at false true t h = refl
     at false false t h = cc
 
-some : (t : Text) → empty t ≡ false → 0 < length t
-some [] h = let z : ◌≡◌ {A = ℕ} 0 1 = cc in omega arith
-some (b ∷ t) h = omega arith
-
-behind_shorter : (t : Text) → empty t ≡ false → length (behind_line t) < length t
-behind_shorter t h = omega (arith, some t h, length-drop (until LINE_END t + 1) t)
-
 -- a line is taken or refused
 pub takes_a_line : (n : ℕ) (s : Front) → empty s.rest ≡ false → asks (line_of s.rest) ≡ false → length s.rest ≤ n
     → (k : ℕ) × (length (behind_line s.rest) ≤ k) × (filled n s ≡ filled k (after_line s (line_of s.rest)))
-takes_a_line zero s more silent fits = absurd (omega (arith, some s.rest more))
+takes_a_line zero s more silent fits = absurd (omega (arith, behind_shorter s.rest more))
 takes_a_line (suc n) s more silent fits = (n, omega (arith, behind_shorter s.rest more), cond-false _ _ _ more ∙ cond-false _ _ _ silent)

@@ -2,6 +2,5 @@ pub mod Bounds
 pub mod DecidingSteps
 pub mod EndSteps
 pub mod FillingSteps
-pub mod FrontLine
 pub mod QuietSteps
 pub mod Writing

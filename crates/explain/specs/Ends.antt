@@ -5,16 +5,12 @@ use Rattle.texts.specs.Texts.{Text}
 use Rattle.lookup.specs.declared.resolution.Found.{Found}
 use Rattle.lookup.specs.declared.resolution.Refused.{Refused}
 use Rattle.lookup.specs.Faults.{number, texts}
-use Rattle.lookup.specs.Outcomes.{Outcome, Room, path, refused}
+use Rattle.lookup.specs.Outcomes.{Outcome, path, refused}
 use Rattle.lookup.specs.Resolutions.{error_number}
 use Rattle.resolver.specs.Runs.{Buffers}
 use Rattle.explain.specs.declared.ending.LookupEnd.{LookupEnd}
 use Rattle.explain.specs.Legible.{legible, phrase}
 use Rattle.explain.specs.Told.{piece_words}
-
--- the memory of a lookup: text area, rows and three buffers
-abbrev pub lent : Room
-lent = record { area = 131072; rows = 1024; first = 255; second = 255; third = 255 }
 
 -- a path with its query and fragment, or the number of a refusal with its texts; and the rounds run
 pub data End : Type 0 where

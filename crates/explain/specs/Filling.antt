@@ -4,11 +4,12 @@ use Rattle.texts.specs.Texts.{Text, empty}
 use Rattle.lines.specs.Sheets.{behind_line, line_of}
 use Rattle.listing.specs.Rows.{Row}
 use Rattle.settings.specs.Tables.{Tables}
+use Rattle.sheets.specs.Entries.{rows_with, tables_with}
 use Rattle.explain.specs.declared.cause.Cause.{Cause}
 use Rattle.explain.specs.declared.front.Filled.{Filled}
 use Rattle.explain.specs.declared.numbered.NumberedLines.{NumberedLines}
 use Rattle.explain.specs.declared.sentence.refused.Refused.{Refused}
-use Rattle.explain.specs.FrontLine.{front_cause, front_rows, front_tables}
+use Rattle.explain.specs.FrontLine.{front_cause}
 use Rattle.explain.specs.Questions.{order_of}
 use Rattle.explain.specs.SheetLines.{NextLine, left_of, lines_before, next_line}
 
@@ -38,8 +39,8 @@ noting (Some why) n line = record { line = n; why = why; text = line } ∷ []
 -- after one line
 abbrev pub after_line : Front → Text → Front
 after_line s line = record {
-  rows = front_rows s.rows line;
-  tables = front_tables s.tables line;
+  rows = rows_with s.rows line;
+  tables = tables_with s.tables line;
   lines = next_line s.lines;
   refused = s.refused ++ noting (front_cause s.rows s.tables line) (next_line s.lines) line;
   rest = behind_line s.rest;

@@ -3,7 +3,8 @@ ghost use Rattle.std.specs.Prelude.{◌≡◌, ◌+◌, IfOk, OnErr, min};
 ghost use Rattle.settings.specs.Meant.{tables};
 ghost use Rattle.lookup.specs.Outcomes.{answer};
 ghost use Rattle.resolver.specs.Runs.{ceiling, paths_in};
-ghost use Rattle.explain.specs.Ends.{end_in, end_of, lent};
+ghost use Rattle.explain.specs.Ends.{end_in, end_of};
+ghost use Rattle.sheets.specs.Rows.{lent};
 
 use crate::question::Question;
 use lookup::{OpenCall, Resolution};

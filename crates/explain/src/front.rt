@@ -4,7 +4,8 @@ ghost use Rattle.lines.specs.Sheets.{content_of, head_of};
 ghost use Rattle.listing.specs.Entries.{rows};
 ghost use Rattle.settings.specs.Meant.{tables};
 ghost use Rattle.explain.specs.Filling.{FrontEnded, NextInFront, filled_by, front_of, noted, noting};
-ghost use Rattle.explain.specs.FrontLine.{front_cause, front_rows, front_tables, listed_with, listing_cause, sets};
+ghost use Rattle.explain.specs.FrontLine.{front_cause, listing_cause};
+ghost use Rattle.sheets.specs.Entries.{listed_with, rows_with, sets, tables_with};
 ghost use Rattle.texts.specs.Taken.{taken_unless};
 
 use crate::cause::Cause;
@@ -37,8 +38,8 @@ fn list(listing: &mut Listing, line: &[u8]) -> Result<(), Cause>
 // Takes a line into the settings if it is one of theirs, else into the listing, or says why not.
 fn take(listing: &mut Listing, settings: &mut Settings, line: &[u8]) -> Result<(), Cause>
     ensures taken_or_refused { result ≡ taken_unless (front_cause (rows listing.old) (tables settings.old) line.now) }
-    ensures rows_then { rows listing.new ≡ front_rows (rows listing.old) line.now }
-    ensures tables_then { tables settings.new ≡ front_tables (tables settings.old) line.now }
+    ensures rows_then { rows listing.new ≡ rows_with (rows listing.old) line.now }
+    ensures tables_then { tables settings.new ≡ tables_with (tables settings.old) line.now }
 {
     if !is_setting(line) {
         return list(listing, line);

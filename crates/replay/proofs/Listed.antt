@@ -4,10 +4,6 @@ use Rattle.std.proofs.lemmas.Bool.{cond-false, cond-true}
 use Rattle.texts.specs.Texts.{Text, empty}
 use Rattle.replay.specs.Lists.{Front, Stored, cases_of, front_case}
 
-some_byte : (t : Text) → empty t ≡ false → 0 < length t
-some_byte [] h = let z : ◌≡◌ {A = ℕ} 0 1 = cc in omega arith
-some_byte (b ∷ t) h = omega arith
-
 -- nothing is left of a list
 pub no_case_left : (n : ℕ) (t : Text) → empty t ≡ true → cases_of n t ≡ Some []
 unfolding cases_of
@@ -24,7 +20,7 @@ no_case (suc n) t h none = cond-false _ _ _ h ∙ ap (option_and_then (λ (f : F
 pub one_case : (n : ℕ) (t : Text) (f : Front) → empty t ≡ false → length t ≤ n → length f.rest < length t → front_case t ≡ Some f
     → (k : ℕ) × (length f.rest ≤ k) × (cases_of n t ≡ option_map (λ cs. f.case ∷ cs) (cases_of k f.rest))
 unfolding cases_of
-one_case zero t f h fits shorter some = absurd (omega (arith, some_byte t h))
+one_case zero t f h fits shorter some = absurd (omega arith)
 one_case (suc n) t f h fits shorter some = (n, omega arith, cond-false _ _ _ h ∙ ap (option_and_then (λ (f : Front). option_map (λ cs. f.case ∷ cs) (cases_of n f.rest))) some)
 
 -- a case behind those that were read is in front of those to come

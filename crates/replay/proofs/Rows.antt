@@ -5,15 +5,8 @@ use Rattle.std.proofs.lemmas.Bool.Decides.{nat_tests}
 use Rattle.std.proofs.lemmas.List.{length-drop}
 use Rattle.texts.specs.Texts.{Text, empty, until}
 use Rattle.lines.specs.Sheets.{LINE_END, behind_line, line_of}
+use Rattle.sheets.proofs.LineSteps.{behind_shorter}
 use Rattle.replay.specs.Verdicts.{same_rows}
-
-some_byte : (t : Text) → empty t ≡ false → 0 < length t
-some_byte [] h = let z : ◌≡◌ {A = ℕ} 0 1 = cc in omega arith
-some_byte (b ∷ t) h = omega arith
-
--- a row that is taken off leaves less
-shorter : (t : Text) → empty t ≡ false → length (behind_line t) < length t
-shorter t h = omega (arith, some_byte t h, length-drop (until LINE_END t + 1) t)
 
 -- a text is empty if its length is 0
 pub empty_by_length : (t : Text) (b : Bool) → b ≡ (length t == 0) → empty t ≡ b
@@ -32,7 +25,7 @@ as_many zero (suc k) ours theirs h i = sym (cond-true _ _ _ (empty_at_0 theirs h
 as_many (suc n) zero ours theirs h i = cond-true _ _ _ (empty_at_0 theirs i)
 as_many (suc n) (suc k) ours [] h i = refl
 as_many (suc n) (suc k) ours (b ∷ theirs) h i =
-    let less = shorter (b ∷ theirs) refl in
+    let less = behind_shorter (b ∷ theirs) refl in
     ap (λ (rows : List Bool). bytes_eq (line_of ours) (line_of (b ∷ theirs)) ∷ rows) (as_many n k (behind_line ours) (behind_line (b ∷ theirs)) (omega arith) (omega arith))
 
 -- no stored row is left
@@ -47,5 +40,5 @@ pub one_row : (ours theirs : Text) → empty theirs ≡ false
 unfolding same_rows
 one_row ours [] h = absurd (let z : ◌≡◌ {A = ℕ} 0 1 = cc in omega arith)
 one_row ours (b ∷ theirs) h =
-    let less = shorter (b ∷ theirs) refl in
+    let less = behind_shorter (b ∷ theirs) refl in
     ap (λ (rows : List Bool). bytes_eq (line_of ours) (line_of (b ∷ theirs)) ∷ rows) (as_many (length theirs) (length (behind_line (b ∷ theirs))) (behind_line ours) (behind_line (b ∷ theirs)) (omega arith) (omega arith))

@@ -16,6 +16,7 @@ use Rattle.lookup.specs.Faults.{Fault, bad_directory, bad_request, broken_lookup
 use Rattle.lookup.specs.Outcomes.{Outcome, Room, answer, buffers_after, handed_out, path, refusal, refused, rounds_at_most, rounds_of}
 use Rattle.lookup.specs.Quiet.{QuietCall}
 use Rattle.lookup.specs.Resolutions.{error_of, length_of, resolution_of}
+use Rattle.lookup.proofs.Answering.{rounds_said}
 use Rattle.lookup.proofs.Firsts.{gives_the_first, nothing_if_none, one_round}
 use Rattle.lookup.proofs.Holding.{few, fine}
 use Rattle.resolver.specs.Handed.{AcceptedQuiet, FirstCandidate, NotFoundIfNone, OnlyAcceptablePaths, hands_out_alone, path_in, says_not_found}
@@ -23,11 +24,6 @@ use Rattle.resolver.specs.Runs.{Buffers}
 
 some_is : {A : Type 0} {x y : A} → Some x ≡ Some y → x ≡ y
 some_is e = cc
-
--- the rounds of an answer
-rounds_said : (o : Outcome) → (resolution_of o).rounds ≡ rounds_of o
-rounds_said (path p q f n) = refl
-rounds_said (refused f n) = refl
 
 -- the path at the front of the first buffer is the one that the definition hands out
 path_said : (o : Outcome) (b : Buffers) → path_in (resolution_of o).outcome (buffers_after o b).0 ≡ handed_out o

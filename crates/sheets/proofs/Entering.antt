@@ -5,24 +5,27 @@ use Rattle.std.proofs.lemmas.Bool.{cond-true, cond-false, false≢true, ne_eqb}
 use Rattle.texts.specs.Taken.{taken_unless}
 use Rattle.texts.specs.Texts.{Text}
 use Rattle.lines.specs.Sheets.{content_of, head_of}
+use Rattle.listing.specs.declared.refusals.Refusal.{Refusal as ListingRefusal}
 use Rattle.listing.specs.Rows.{Row}
 use Rattle.settings.specs.declared.refusals.Refusal.{Refusal as SettingsRefusal}
 use Rattle.settings.specs.Loading.{line_refusal, offer_of}
 use Rattle.settings.specs.Tables.{Tables}
 use Rattle.sheets.specs.declared.refusal.Refusal.{Refusal}
-use Rattle.sheets.specs.declared.refusal.Refusal.TheVariants.{Closed, Setting}
-use Rattle.sheets.specs.Entries.{closed_refusal, entry_refusal, listing_refusal, rows_with, sets, tables_with}
+use Rattle.sheets.specs.declared.refusal.Refusal.TheVariants.{Closed}
+use Rattle.sheets.specs.Entries.{closed_refusal, entry_fault, entry_refusal, listing_fault, rows_with, sets, tables_with}
 use Rattle.sheets.specs.Reading.{State, after_entry, leaving, telling}
 use Rattle.sheets.specs.Refusals.{number}
 use Rattle.sheets.specs.Tasks.{Todo, tell}
 
--- an entry of the settings that is refused
-by_settings : (o : Option SettingsRefusal) (e : SettingsRefusal) → taken_unless o ≡ Err e → Err (Setting e) ≡ taken_unless (option_map Setting o)
-by_settings None e h = cc
-by_settings (Some r) e h = cc
+-- an entry of the settings that is refused, whatever the words
+module _ {Why : Type 0} (bad_line : Why) (by_listing : ListingRefusal → Why) (by_settings : SettingsRefusal → Why) where
+  in_words : (o : Option SettingsRefusal) (e : SettingsRefusal) → taken_unless o ≡ Err e → Err (by_settings e) ≡ taken_unless (option_map by_settings o)
+  in_words None e h = cc
+  in_words (Some r) e h = cc
 
-pub setting_refused : (rs : List Row) (t : Tables) (line : Text) (e : SettingsRefusal) → sets (head_of line) ≡ true → taken_unless (line_refusal t (offer_of line)) ≡ Err e → Err (Setting e) ≡ taken_unless (entry_refusal rs t line)
-setting_refused rs t line e is h = by_settings _ e h ∙ sym (ap taken_unless (cond-true _ _ (listing_refusal rs (content_of line)) is))
+  pub setting_refused : (rs : List Row) (t : Tables) (line : Text) (e : SettingsRefusal) → sets (head_of line) ≡ true → taken_unless (line_refusal t (offer_of line)) ≡ Err e
+      → Err (by_settings e) ≡ taken_unless (entry_fault bad_line by_listing by_settings rs t line)
+  setting_refused rs t line e is h = in_words _ e h ∙ sym (ap taken_unless (cond-true _ _ (listing_fault bad_line by_listing by_settings rs (content_of line)) is))
 
 -- what is told of an entry once the tables are closed
 pub closed_if_taken : (o : Option Refusal) → Ok tt ≡ taken_unless o → Closed ≡ closed_refusal o

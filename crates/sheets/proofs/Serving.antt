@@ -8,9 +8,10 @@ use Rattle.texts.specs.Parts.{text_at}
 use Rattle.tree.specs.Acceptances.{Allowed}
 use Rattle.tree.specs.Meanings.{Meaning}
 use Rattle.settings.specs.Tables.{Tables}
-use Rattle.lookup.specs.Faults.{Fault, bad_directory, bad_request, broken_lookup, broken_manifest, empty_request, ignored, long_text, no_memory, not_found, number, recursion, texts, unmatched}
-use Rattle.lookup.specs.Outcomes.{Outcome, Room, answer, buffers_after, path, refusal, refused, rounds_of, written}
-use Rattle.lookup.specs.Resolutions.{error_number, error_of, length_of, resolution_of}
+use Rattle.lookup.specs.Faults.{texts}
+use Rattle.lookup.specs.Outcomes.{Outcome, Room, answer, buffers_after, path, refusal, refused, written}
+use Rattle.lookup.specs.Resolutions.{length_of, resolution_of}
+use Rattle.lookup.proofs.Answering.{rounds_said, same_number}
 use Rattle.lookup.proofs.Holding.{few}
 use Rattle.resolver.specs.declared.Answered.{Answered}
 use Rattle.resolver.specs.declared.Answered.TheVariants.{Resolved}
@@ -28,27 +29,10 @@ front_written : (o : Option Text) (b : List ℕ) → front (length_of o) (writte
 front_written None b = refl
 front_written (Some t) b = take_at t (drop (length t) b) (length t) refl
 
-number_told : (f : Fault) → error_number (error_of f) ≡ number f
-number_told no_memory = refl
-number_told bad_directory = refl
-number_told bad_request = refl
-number_told (empty_request t) = refl
-number_told (not_found t) = refl
-number_told (unmatched r l) = refl
-number_told (ignored p) = refl
-number_told recursion = refl
-number_told long_text = refl
-number_told (broken_manifest p) = refl
-number_told (broken_lookup t) = refl
-
 -- an answer and its buffers have the row of the outcome
 outcome_told : (o : Outcome) (b : Buffers) → answered_row (Resolved (resolution_of o)) (buffers_after o b) ≡ outcome_row o
 outcome_told (path p q f n) b = (λ i. row 0 n (take_at p (drop (length p) b.0) (length p) refl i) (front_written q b.1.0 i) (front_written f b.1.1 i))
-outcome_told (refused f n) b = (λ i. row (number_told f i) n (front_written (texts f).0 b.0 i) (front_written (texts f).1 b.1.0 i) [])
-
-rounds_told : (o : Outcome) → (resolution_of o).rounds ≡ rounds_of o
-rounds_told (path p q f n) = refl
-rounds_told (refused f n) = refl
+outcome_told (refused f n) b = (λ i. row (same_number f i) n (front_written (texts f).0 b.0 i) (front_written (texts f).1 b.1.0 i) [])
 
 -- a reply whose buffers have the room that is lent
 pub record Wide (reply : Reply) : Type 0 where
@@ -87,7 +71,7 @@ module _ (m : Meaning) (allowed : Allowed) (t : Tables) (sheet : Text) where
   one_row n (Resolve dir r) old new w h =
       let o = answer m allowed t (room_in 131072 1024 old) (text_at sheet dir) (text_at sheet r) in
       let bound = few m allowed t (text_at sheet dir) (text_at sheet r) (refusal (room_in 131072 1024 old) (text_at sheet dir) (text_at sheet r)) in
-      let short : (resolution_of o).rounds ≤ 999 = omega (arith, rounds_told o, bound) in (
+      let short : (resolution_of o).rounds ≤ 999 = omega (arith, rounds_said o, bound) in (
         ap (λ (x : Answered × Buffers). answered_row x.0 x.1) h
             ∙ outcome_told o (buffers_of old)
             ∙ ap (λ (room : Room). outcome_row (answer m allowed t room (text_at sheet dir) (text_at sheet r))) (room_lent old w),

@@ -3,8 +3,9 @@ use Rattle.texts.specs.Texts.{Text}
 use Rattle.lines.specs.Sheets.{line_of}
 use Rattle.listing.specs.Entries.{rows}
 use Rattle.settings.specs.Meant.{tables}
+use Rattle.sheets.specs.Entries.{rows_with, tables_with}
 use Rattle.explain.specs.declared.numbered.NumberedLines.{NumberedLines}
-use Rattle.explain.specs.FrontLine.{front_cause, front_rows, front_tables}
+use Rattle.explain.specs.FrontLine.{front_cause}
 use Rattle.explain.specs.Filling.{Front, after_line, filled, noted, noting}
 use Rattle.explain.specs.SheetLines.{left_of, lines_before, next_line}
 use Rattle.explain.proofs.FillingSteps.{stops_here, takes_a_line}
@@ -26,8 +27,8 @@ loop-number-preserved c =
     ∙ ap (λ (l : Text). s.refused ++ noting (front_cause rs t l) (next_line s.lines) l) given.up_to_the_line_end in
     let then : ◌≡◌ {A = Front} (record { rows = rows c.take-taken.new.listing; tables = tables c.take-taken.new.settings; lines = lines_before c.next_in_front.new.lines; refused = map noted c.note.new.refused.items; rest = left_of c.next_in_front.new.lines }) (after_line s (line_of s.rest)) =
     λ i. record {
-      rows = (c.take-taken.ensures.rows_then ∙ ap (front_rows rs) given.up_to_the_line_end) i;
-      tables = (c.take-taken.ensures.tables_then ∙ ap (front_tables t) given.up_to_the_line_end) i;
+      rows = (c.take-taken.ensures.rows_then ∙ ap (rows_with rs) given.up_to_the_line_end) i;
+      tables = (c.take-taken.ensures.tables_then ∙ ap (tables_with t) given.up_to_the_line_end) i;
       lines = (given.line_is_counted ∙ given.next_number) i;
       refused = said i;
       rest = given.rest_is_left i;

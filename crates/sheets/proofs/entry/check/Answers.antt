@@ -1,9 +1,9 @@
 use Rattle.std.proofs.Common.{◌≡◌, Err, sym, ◌∙◌, rules}
-use Rattle.sheets.specs.declared.refusal.Refusal.TheVariants.{Setting}
+use Rattle.sheets.specs.declared.refusal.Refusal.TheVariants.{Line, Listing, Setting}
 use Rattle.sheets.proofs.Entering.{setting_refused}
 use Rattle.sheets.proofs.entry.check.Goals as goal
 
 pub returns-in_err-check_line : goal.returns-in_err-check_line
 returns-in_err-check_line c =
     let told : c.from_residual.result ≡ Err (Setting c.in_err-check_line.field-0.0) = search rules in
-    record { taken_or_refused = told ∙ setting_refused _ _ _ _ (sym c.is_setting.ensures.setting_or_flag_by_its_head ∙ c.if-not-is_setting.false) (sym c.check_line.ensures.taken_or_refused ∙ c.in_err-check_line.was) }
+    record { taken_or_refused = told ∙ setting_refused Line Listing Setting _ _ _ _ (sym c.is_setting.ensures.setting_or_flag_by_its_head ∙ c.if-not-is_setting.false) (sym c.check_line.ensures.taken_or_refused ∙ c.in_err-check_line.was) }
