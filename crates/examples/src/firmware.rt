@@ -6,16 +6,12 @@ ghost use Rattle.tree.specs.declared.answers.Kind.TheVariants.{Nothing};
 
 use cache::Cache;
 use listing::Listing;
-use lookup::{Found, OpenCall, Refused, ResolveError};
+use lookup::{Found, MIN_AREA, MIN_ROWS, OpenCall, Refused, ResolveError};
 use resolver::{Answered, Call, Reply, Resolver, serve_piled};
 use settings::Settings;
 use std::test::Fail;
 use texts::{Place, count_parts};
 use tree::{Broken, FileTree, Host, Kind, Manifest, PartCount, Way};
-
-const AREA: usize = 131072;
-
-const ROWS: usize = 1024;
 
 const MAX_LEN: usize = 255;
 
@@ -37,8 +33,8 @@ fn with_file(path: &[u8]) -> Result<Listing, Fail> {
 fn requests_are_resolved(rt: HostRuntime) -> Result<(), Fail> {
     let host = Cache::new(with_file(b"/lib/a.js")?);
     let mut resolver = Resolver::new(with_extension()?, host, ANY_DEPTH);
-    let mut area = [7; AREA];
-    let mut rows = [OpenCall::blank(); ROWS];
+    let mut area = [7; MIN_AREA];
+    let mut rows = [OpenCall::blank(); MIN_ROWS];
     let mut first = [b'.'; MAX_LEN];
     let mut second = [b'.'; MAX_LEN];
     let mut third = [b'.'; MAX_LEN];
@@ -59,7 +55,7 @@ fn requests_are_resolved(rt: HostRuntime) -> Result<(), Fail> {
         second: None,
     };
     assert!(rt; answer.outcome == Err(refused) && answer.rounds == 0);
-    assert!(rt; area == [7; AREA]);
+    assert!(rt; area == [7; MIN_AREA]);
     assert!(rt; first == [b'.'; MAX_LEN]);
 
     // A path is found.
@@ -81,7 +77,7 @@ fn requests_are_resolved(rt: HostRuntime) -> Result<(), Fail> {
     assert!(rt; first.starts_with(b"/lib/a.js.."));
     assert!(rt; second.starts_with(b"?q.."));
     assert!(rt; third == [b'.'; MAX_LEN]);
-    assert!(rt; area == [0; AREA]);
+    assert!(rt; area == [0; MIN_AREA]);
 
     // Nothing is found: the request stands in the first buffer, before what the path left.
     let answer = resolver.resolve(
@@ -172,8 +168,8 @@ fn a_list_is_served_over_a_pile(rt: HostRuntime) -> Result<(), Fail> {
         kind: Kind::Nothing,
     };
     let card = Uniform { kind: Kind::File };
-    let mut area = vec![in rt.alloc(); 0; AREA]?;
-    let mut rows = vec![in rt.alloc(); OpenCall::blank(); ROWS]?;
+    let mut area = vec![in rt.alloc(); 0; MIN_AREA]?;
+    let mut rows = vec![in rt.alloc(); OpenCall::blank(); MIN_ROWS]?;
     let mut replies = [Reply::blank(); 5];
     let served = serve_piled(
         with_extension()?,

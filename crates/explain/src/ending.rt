@@ -7,16 +7,11 @@ ghost use Rattle.explain.specs.Ends.{end_in, end_of};
 ghost use Rattle.sheets.specs.Rows.{lent};
 
 use crate::question::Question;
-use lookup::{OpenCall, Resolution};
+use lookup::{MIN_AREA, MIN_ROWS, OpenCall, Resolution};
 use resolver::Resolver;
 use std::alloc::{AllocError, Global};
 use texts::MAX_LEN;
 use tree::{FileTree, Host, Policy};
-
-// How much memory a lookup asks for: bytes of the text area, and rows.
-const AREA: usize = 131_072;
-
-const ROWS: usize = 1024;
 
 /// What a lookup ends in: its answer, and the buffers with its texts.
 #[derive(Clone, Copy)]
@@ -42,8 +37,8 @@ impl LookupEnd {
         ensures same_meaning { H.FileTree.meaning resolver.new.host ≡ H.FileTree.meaning resolver.old.host }
         ensures still_sound { H.FileTree.sound resolver.new.host }
     {
-        let mut area = vec![in alloc; 0; AREA]?;
-        let mut rows = vec![in alloc; OpenCall::blank(); ROWS]?;
+        let mut area = vec![in alloc; 0; MIN_AREA]?;
+        let mut rows = vec![in alloc; OpenCall::blank(); MIN_ROWS]?;
         let mut first = [0; MAX_LEN];
         let mut second = [0; MAX_LEN];
         let mut third = [0; MAX_LEN];

@@ -7,7 +7,7 @@ mod resolution;
 mod samples;
 
 pub use calls::OpenCall;
-pub use calls::answer::answer_call;
+pub use calls::answer::{MIN_AREA, MIN_ROWS, answer_call};
 pub use laws::rounds_of_lawful_lookups;
 pub use resolution::{Found, Refused, Resolution, ResolveError};
 pub use samples::worked_lookups_hold;

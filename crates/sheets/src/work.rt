@@ -1,12 +1,12 @@
 // What is at hand while a sheet is answered. The structs stand alone in their file: the definitions in specs/ name them.
-use lookup::OpenCall;
+use lookup::{MIN_AREA, MIN_ROWS, OpenCall};
 use resolver::{Call, Reply};
 use stack::ArrayVec;
 
-// What a call is lent: bytes of the text area, and rows of open calls.
-pub(crate) const AREA: usize = 131_072;
+// What a call is lent: as much as it asks for.
+pub(crate) const AREA: usize = MIN_AREA;
 
-pub(crate) const ROWS: usize = 1024;
+pub(crate) const ROWS: usize = MIN_ROWS;
 
 // How many calls are served at a time.
 pub(crate) const BATCH: usize = 64;

@@ -17,19 +17,22 @@ use specifier::{is_directory, is_request};
 use texts::{MAX_LEN, Place};
 use tree::{FileTree, Host, Policy};
 
-// How many rounds a lookup runs at most, and what is lent for each: bytes of the text area, and rows.
+// How many rounds a lookup runs at most.
 const ROUNDS: usize = 64;
 
-const ROUND_BYTES: usize = 2048;
+// 2,048 bytes and 16 rows for each round, which is more than a round uses.
+/// The fewest bytes of the text area that a call asks for.
+pub const MIN_AREA: usize = 131_072;
 
-const ROUND_ROWS: usize = 16;
+/// The fewest rows that a call asks for.
+pub const MIN_ROWS: usize = 1_024;
 
 // Whether as much memory is lent as a call asks for.
 fn is_roomy(area: &[u8], rows: &[OpenCall], first: &[u8], second: &[u8], third: &[u8]) -> bool
     ensures as_much_as_is_asked_for { result ≡ roomy (room_of area.now rows.now first.now second.now third.now) }
 {
-    area.len() >= ROUND_BYTES * ROUNDS
-        && rows.len() >= ROUND_ROWS * ROUNDS
+    area.len() >= MIN_AREA
+        && rows.len() >= MIN_ROWS
         && first.len() >= MAX_LEN
         && second.len() >= MAX_LEN
         && third.len() >= MAX_LEN
