@@ -9,7 +9,7 @@ use Rattle.lookup.specs.Faults.{Fault}
 use Rattle.lookup.specs.Laws.{FindsAcceptablePaths}
 use Rattle.lookup.specs.Lookups.{Context, Ended, ends_in, failed, missed, require}
 use Rattle.lookup.specs.Outcomes.{fresh, handed_out, lookup, outcome_of, rounds_at_most, rounds_of, unless_refused}
-use Rattle.lookup.proofs.Keeping.{Keeps, Kept, require_keeps}
+use Rattle.lookup.proofs.Keeping.{Every, Keeps, Kept, by_rounds, require_keeps}
 
 some_is : {x y : Text} → Some x ≡ Some y → x ≡ y
 some_is e = cc
@@ -48,19 +48,8 @@ module _ (m : Meaning) (allowed : Allowed) (t : Tables) (dir r : Text) where
   abbrev Few : Context → Type 0
   Few c = c.rounds ≤ rounds_at_most
 
-  abbrev Every : Text → Type 0
-  Every p = Unit {0}
-
   bounded : Kept m allowed t rounds_at_most Few Every
-  bounded = record {
-    loosened_too = λ c h. h;
-    marked_too = λ f c h. h;
-    taken_too = λ s c h. h;
-    counted_too = λ c h n. omega arith;
-    accepted = λ p h. tt;
-    looked_up = λ w s d p e. tt;
-    in_context = λ e p. tt;
-  }
+  bounded = by_rounds m allowed t rounds_at_most (λ n. n ≤ rounds_at_most) (λ n h l. omega arith)
 
   few_end : (e : Ended) → Keeps m allowed t rounds_at_most Few Every bounded e → rounds_of (outcome_of e) ≤ rounds_at_most
   few_end (ends_in q c) k = k.1

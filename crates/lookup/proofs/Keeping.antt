@@ -29,6 +29,22 @@ pub record Kept (m : Meaning) (allowed : Allowed) (t : Tables) (limit : ℕ) (In
   pub looked_up : (w : Way) (r : Text) (dir : Path) (p : Text) → m.lookup w r dir ≡ found p → Ok p
   pub in_context : t.context ≡ true → (p : Text) → Ok p
 
+-- of each path nothing
+abbrev pub Every : Text → Type 0
+Every p = Unit {0}
+
+-- what holds of the rounds run, and of one more while one is left
+pub by_rounds : (m : Meaning) (allowed : Allowed) (t : Tables) (limit : ℕ) (Of : ℕ → Type 0) → ((n : ℕ) → Of n → n < limit → Of (suc n)) → Kept m allowed t limit (λ c. Of c.rounds) Every
+by_rounds m allowed t limit Of one_more = record {
+  loosened_too = λ c h. h;
+  marked_too = λ f c h. h;
+  taken_too = λ r c h. h;
+  counted_too = λ c h l. one_more c.rounds h l;
+  accepted = λ p e. tt;
+  looked_up = λ w r dir p e. tt;
+  in_context = λ e p. tt;
+}
+
 module _ (m : Meaning) (allowed : Allowed) (t : Tables) (limit : ℕ) (In : Context → Type 0) (Ok : Text → Type 0) (k : Kept m allowed t limit In Ok) where
   -- of an end
   abbrev pub Keeps : Ended → Type 0

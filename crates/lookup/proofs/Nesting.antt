@@ -16,26 +16,15 @@ use Rattle.alias.specs.Attempts as attempt
 use Rattle.candidates.specs.Candidates.{Candidate, broken_at, candidates, inward, is_directory, overlong, try}
 use Rattle.lookup.specs.Faults.{empty_request, long_text, not_found, passes_on, recursion, stays}
 use Rattle.lookup.specs.Lookups.{Context, Ended, by_labels, by_way, counted, ends_in, failed, find, look, loosened, missed, or_alone, or_next, or_value, require, round, taking, tested, tests, tries, with_fragment, with_marks}
-use Rattle.lookup.proofs.Keeping.{Keeps, Kept, find_keeps, require_keeps, tested_keeps, tries_keep}
+use Rattle.lookup.proofs.Keeping.{Every, Keeps, Kept, by_rounds, find_keeps, require_keeps, tested_keeps, tries_keep}
 
 module _ (m : Meaning) (allowed : Allowed) (t : Tables) (limit k : ℕ) where
   -- a context of k rounds or more
   abbrev Late : Context → Type 0
   Late c = k ≤ c.rounds
 
-  abbrev Every : Text → Type 0
-  Every p = Unit {0}
-
   late : Kept m allowed t limit Late Every
-  late = record {
-    loosened_too = λ c h. h;
-    marked_too = λ f c h. h;
-    taken_too = λ s c h. h;
-    counted_too = λ c h n. omega (arith, h);
-    accepted = λ p h. tt;
-    looked_up = λ w s d p e. tt;
-    in_context = λ e p. tt;
-  }
+  late = by_rounds m allowed t limit (λ n. k ≤ n) (λ n h l. omega (arith, h))
 
   abbrev StaysLate : Ended → Type 0
   StaysLate e = Keeps m allowed t limit Late Every late e
@@ -129,6 +118,6 @@ module _ (m : Meaning) (allowed : Allowed) (t : Tables) (limit : ℕ) where
       (round_same m allowed t limit (suc c.rounds)
       (λ e u d. require m allowed t limit n e u d)
       (λ e u d. require m allowed t limit k e u d)
-      (λ e u d l. require_keeps m allowed t limit (Late m allowed t limit (suc c.rounds)) (Every m allowed t limit (suc c.rounds)) (late m allowed t limit (suc c.rounds)) n e u d l)
+      (λ e u d l. require_keeps m allowed t limit (Late m allowed t limit (suc c.rounds)) Every (late m allowed t limit (suc c.rounds)) n e u d l)
       (λ e u d l. nesting_alike n k e u d (omega (arith, h, l)) (omega (arith, g, l)))
       dir r (counted c) (omega arith))
