@@ -1,11 +1,11 @@
 // The lines in front of the first that asks, which fill the listing and the settings.
 ghost use Rattle.std.specs.Prelude.{◌≡◌, ◌++◌, IfOk, MatchOption, OnOk, Option, map};
-ghost use Rattle.lines.specs.Sheets.{content_of, head_of};
+ghost use Rattle.lines.specs.Sheets.{content_of};
 ghost use Rattle.listing.specs.Entries.{rows};
 ghost use Rattle.settings.specs.Meant.{tables};
 ghost use Rattle.explain.specs.Filling.{FrontEnded, NextInFront, filled_by, front_of, noted, noting};
 ghost use Rattle.explain.specs.FrontLine.{front_cause, listing_cause};
-ghost use Rattle.sheets.specs.Entries.{listed_with, rows_with, sets, tables_with};
+ghost use Rattle.sheets.specs.Entries.{listed_with, rows_with, tables_with};
 ghost use Rattle.texts.specs.Taken.{taken_unless};
 
 use crate::cause::Cause;
@@ -13,18 +13,13 @@ use crate::numbered::NumberedLines;
 use crate::question::Order;
 use crate::refusal::Refusal;
 use crate::sentence::Refused;
-use lines::{Head, Line};
+use lines::Line;
 use listing::Listing;
-use settings::{Settings, is_setting_kind};
+use settings::Settings;
+use sheets::is_setting;
 use std::alloc::{AllocError, Global};
 
-// Whether a line is one of the settings, by its kind.
-fn is_setting(line: &[u8]) -> bool
-    ensures setting_or_flag_by_its_head { result ≡ sets (head_of line.now) }
-{
-    Head::read(line).is_ok_and(|head| is_setting_kind(head.kind))
-}
-
+// `sheets` takes an entry in these steps too, but refuses it as its rows tell it; here the refusal goes up as a cause, which a question may have too.
 // Takes a line into the listing, or says why not.
 fn list(listing: &mut Listing, line: &[u8]) -> Result<(), Cause>
     ensures taken_or_refused { result ≡ taken_unless (listing_cause (rows listing.old) (content_of line.now)) }

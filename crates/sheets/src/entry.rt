@@ -14,8 +14,8 @@ use settings::{Settings, is_setting_kind};
 // The number that a full table is refused with, be it in the listing or in the settings.
 const FULL: u8 = 12;
 
-// Whether a line is one of the settings, by its kind.
-fn is_setting(line: &[u8]) -> bool
+/// Whether a line is one of the settings, by its kind.
+pub fn is_setting(line: &[u8]) -> bool
     ensures setting_or_flag_by_its_head { result ≡ sets (head_of line.now) }
 {
     Head::read(line).is_ok_and(|head| is_setting_kind(head.kind))

@@ -11,6 +11,7 @@ mod whole;
 mod work;
 
 pub use answering::answer;
+pub use entry::is_setting;
 pub use reading::read;
 pub use refusal::Refusal;
 pub use task::Task;
