@@ -1,10 +1,9 @@
 -- The rows of two texts side by side, one after the other. Assumes nothing.
-use Rattle.std.proofs.Common.{◌≡◌, ℕ, zero, suc, ◌+◌, ◌<◌, ◌≤◌, Bool, true, false, List, [], ◌∷◌, bytes_eq, length, refl, ap, sym, ◌∙◌, ◌==◌, arith}
+use Rattle.std.proofs.Common.{◌≡◌, ℕ, zero, suc, ◌≤◌, Bool, true, false, List, [], ◌∷◌, bytes_eq, length, refl, ap, sym, ◌∙◌, ◌==◌, arith}
 use Rattle.std.proofs.lemmas.Bool.{cond-true}
 use Rattle.std.proofs.lemmas.Bool.Decides.{nat_tests}
-use Rattle.std.proofs.lemmas.List.{length-drop}
-use Rattle.texts.specs.Texts.{Text, empty, until}
-use Rattle.lines.specs.Sheets.{LINE_END, behind_line, line_of}
+use Rattle.texts.specs.Texts.{Text, empty}
+use Rattle.lines.specs.Sheets.{behind_line, line_of}
 use Rattle.sheets.proofs.LineSteps.{behind_shorter}
 use Rattle.replay.specs.Verdicts.{same_rows}
 
