@@ -21,7 +21,7 @@ last (ignored p) = true
 last (unmatched r l) = true
 last overlong = true
 
--- a label that ignores: its path is the label without `$`, joined to the directory
+-- a label that ignores: its path is the label without its final `$`, joined to the directory
 abbrev pub ignoring : Text → Text → Attempt
 ignoring dir l = cond (joins dir (key l)) (ignored (join dir (key l))) overlong
 

@@ -1,5 +1,5 @@
 // The labels tried on a request, one attempt after the other.
-// Each call that asks the tree keeps its meaning and its soundness in its own contract, as the project asks of every call.
+// Each call that asks the tree keeps its meaning and its soundness in its own contract, by a rule of the project.
 ghost use Rattle.std.specs.Prelude.{◌≡◌, ◌<◌, ◌≤◌, ◌-◌, ◌+◌, Bool, true, false, List, [], ◌∷◌, IfSome, MatchOption, Some, map, drop, length, take};
 ghost use Rattle.texts.specs.Texts.{Text as Bytes, fronted};
 ghost use Rattle.std.specs.Option.{option_map};

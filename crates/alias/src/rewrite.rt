@@ -1,5 +1,5 @@
 // What a value of a label makes of a request that the label touches.
-// Each call that asks the tree keeps its meaning and its soundness in its own contract, as the project asks of every call.
+// Each call that asks the tree keeps its meaning and its soundness in its own contract, by a rule of the project.
 ghost use Rattle.std.specs.Prelude.{◌≡◌, ◌≤◌, length, not, Some, Ok};
 ghost use Rattle.std.specs.Result.{result_map_both};
 ghost use Rattle.texts.specs.Held.{bytes_of};

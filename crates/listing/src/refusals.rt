@@ -11,7 +11,7 @@ pub enum Refusal {
     Full = 12,
     /// A path that is not clean.
     Form = 13,
-    /// A main text before any manifest.
+    /// A main text before the first manifest that is not broken.
     MainBeforeManifest = 14,
     /// There is no such kind.
     Kind = 15,
@@ -19,7 +19,7 @@ pub enum Refusal {
 
 impl Refusal {
     // The discriminant, by a name that a `From` would not give.
-    /// The number that an office writes for it.
+    /// The number that an office reads for it.
     pub fn number(self) -> u8
         ensures number_of_the_refusal { result ≡ number self }
     {

@@ -7,9 +7,9 @@ ghost use Rattle.lookup.specs.Resolutions.{error_number};
 pub enum ResolveError {
     /// Too little memory was lent.
     NoMemory = 1,
-    /// No lookup can start from the directory.
+    /// No lookup can start from the directory: it is not clean, has more than 80 bytes, or one above 127.
     Directory = 2,
-    /// The request is not looked up.
+    /// The request is not looked up: it has more than 96 bytes, or one above 127.
     Request = 20,
     /// A text has no path.
     Empty = 21,

@@ -7,7 +7,7 @@ ghost use Rattle.replay.specs.Lists.{group_of};
 pub enum Group {
     /// a lookup that the rules name as a sample
     Sample,
-    /// a case where rules, pages or readings part
+    /// a case where the rules, the public pages or ways to read them differ
     Corner,
     /// chosen out of many generated sheets
     Chosen,

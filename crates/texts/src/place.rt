@@ -1,8 +1,8 @@
-// Where a part of a text stands.
+// Where some bytes of a text stand.
 ghost use Rattle.std.specs.Prelude.{◌≡◌};
 ghost use Rattle.texts.specs.Parts.{text_at};
 
-/// A part of a text, by its first byte and its length.
+/// Some bytes of a text, by where the first of them stands and how many they are.
 #[derive(Clone, Copy, PartialEq, Eq, Debug)]
 pub struct Place {
     pub start: usize,
