@@ -17,6 +17,7 @@ use tree::{FileTree, Host, Policy};
 
 impl Move {
     // Puts what a move leaves open on the table, and says what the top call is told.
+    #[inline(always)]
     fn put_on(self, table: &mut Stack<OpenCall>) -> Answer
         requires room { length (rows_of self ++ piled table.old) ≤ capacity table.old }
         ensures calls_on_top { piled table.new ≡ rows_of self ++ piled table.old }
