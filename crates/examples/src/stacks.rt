@@ -33,9 +33,10 @@ fn a_list_gives_its_items_in_order(rt: HostRuntime) -> Result<(), Fail> {
     list.push_front(6)?;
     assert!(rt; list.push(1).is_err() && list.as_slice() == [6, 7, 8, 9].as_slice());
     let copy = list.clone()?;
-    assert!(rt; list.remove(1) == Some(7) && list.remove(3) == None);
-    list.truncate(2);
-    assert!(rt; list.as_slice() == [6, 8].as_slice());
+    assert!(rt; list.move_to_front(1) == Some(7) && list.move_to_front(4) == None);
+    list.set(2, 5);
+    list.truncate(3);
+    assert!(rt; list.as_slice() == [7, 6, 5].as_slice());
     assert!(rt; copy.as_slice() == [6, 7, 8, 9].as_slice());
     Ok(())
 }
