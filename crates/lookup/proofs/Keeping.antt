@@ -29,11 +29,11 @@ pub record Kept (m : Meaning) (allowed : Allowed) (t : Tables) (limit : ℕ) (In
   pub looked_up : (w : Way) (r : Text) (dir : Path) (p : Text) → m.lookup w r dir ≡ found p → Ok p
   pub in_context : t.context ≡ true → (p : Text) → Ok p
 
--- of each path nothing
+-- nothing is asked of a path
 abbrev pub Every : Text → Type 0
 Every p = Unit {0}
 
--- what holds of the rounds run, and of one more while one is left
+-- what holds of the rounds run is kept, if it holds of one more while one is left
 pub by_rounds : (m : Meaning) (allowed : Allowed) (t : Tables) (limit : ℕ) (Of : ℕ → Type 0) → ((n : ℕ) → Of n → n < limit → Of (suc n)) → Kept m allowed t limit (λ c. Of c.rounds) Every
 by_rounds m allowed t limit Of one_more = record {
   loosened_too = λ c h. h;
