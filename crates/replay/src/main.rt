@@ -1,6 +1,9 @@
 // Gives the stored sheets of a list to the port and compares its rows with those of the original, byte for byte.
 #![tactic(auto)]
 
+ghost use Rattle.std.specs.Prelude.{◌≡◌, is_ok};
+ghost use Rattle.replay.specs.Scores.{all_agree};
+
 mod case;
 mod comparison;
 mod group;
@@ -44,6 +47,16 @@ fn sum_up(rt: &HostRuntime, scores: &Scores) -> anyhow::Result<()> {
     Ok(())
 }
 
+// A run ends well if every sheet agrees, and else with an error.
+fn conclude(scores: &Scores) -> anyhow::Result<()>
+    ensures well_if_every_sheet_agrees { is_ok result ≡ all_agree scores.now }
+{
+    if !scores.all_agree() {
+        bail!("the port does not write what the original writes");
+    }
+    Ok(())
+}
+
 fn run(rt: &HostRuntime) -> anyhow::Result<()> {
     let Some(path) = env::args(rt)?.nth(1) else {
         bail!("there is no stored list: replay LIST");
@@ -60,10 +73,7 @@ fn run(rt: &HostRuntime) -> anyhow::Result<()> {
     }
     let scores = Scores::of(verdicts.as_slice());
     sum_up(rt, &scores)?;
-    if !scores.all_agree() {
-        bail!("the port does not write what the original writes");
-    }
-    Ok(())
+    conclude(&scores)
 }
 
 fn main(rt: HostRuntime) -> anyhow::Result<()> {
