@@ -20,19 +20,7 @@ use group::Group;
 use replay::replay;
 use score::Scores;
 use std::{env, fs};
-use summary::{Differing, Summary};
-use verdict::Verdict;
-
-// The line on a sheet that differs.
-fn tell(rt: &HostRuntime, verdict: &Verdict) -> anyhow::Result<()> {
-    let differing = Differing {
-        group: verdict.case.group,
-        name: str::from_utf8(verdict.case.name)?,
-        other_row: verdict.other_row,
-    };
-    println!(rt; "{differing}")?;
-    Ok(())
-}
+use summary::Summary;
 
 // The line on each group.
 fn sum_up(rt: &HostRuntime, scores: &Scores) -> anyhow::Result<()> {
@@ -67,8 +55,8 @@ fn run(rt: &HostRuntime) -> anyhow::Result<()> {
     };
     let verdicts = replay(rt.alloc(), cases.as_slice())?;
     for verdict in &verdicts {
-        if !verdict.agrees {
-            tell(rt, verdict)?;
+        if let Some(differing) = verdict.differing()? {
+            println!(rt; "{differing}")?;
         }
     }
     let scores = Scores::of(verdicts.as_slice());

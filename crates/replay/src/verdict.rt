@@ -1,10 +1,12 @@
 // What is found of a stored sheet.
-ghost use Rattle.std.specs.Prelude.{◌≡◌};
+ghost use Rattle.std.specs.Prelude.{◌≡◌, IfOk, IfSome, is_some, not};
 ghost use Rattle.replay.specs.Cases.{judged, stored};
 ghost use Rattle.replay.specs.Verdicts.{judged_of};
 
 use crate::case::Case;
 use crate::comparison::{count_rows, count_same_rows, first_other_row};
+use crate::summary::Differing;
+use std::str::Utf8Error;
 use texts::same_bytes;
 
 /// What is found of a stored sheet.
@@ -31,5 +33,20 @@ impl<'a> Verdict<'a> {
             same_rows: count_same_rows(answered, case.rows),
             other_row: first_other_row(answered, case.rows),
         }
+    }
+    /// What is told of the sheet: nothing if it agrees. A name that is no text is an error.
+    pub fn differing(&self) -> Result<Option<Differing<'a>>, Utf8Error>
+        ensures told_exactly_if_it_differs { IfOk result (λ told. is_some told ≡ not self.now.agrees) }
+        ensures group_name_and_row_of_the_sheet { IfOk result (λ told. IfSome told (λ d. (d.group ≡ self.now.case.group) × (d.name.now ≡ self.now.case.name.now) × (d.other_row ≡ self.now.other_row))) }
+    {
+        if self.agrees {
+            return Ok(None);
+        }
+        let name = str::from_utf8(self.case.name)?;
+        Ok(Some(Differing {
+            group: self.case.group,
+            name,
+            other_row: self.other_row,
+        }))
     }
 }
