@@ -1,5 +1,5 @@
 // What is found of a stored sheet.
-ghost use Rattle.std.specs.Prelude.{◌≡◌, IfOk, IfSome, is_some, not};
+ghost use Rattle.std.specs.Prelude.{◌≡◌, false, IfErr, IfOk, IfSome, IsUtf8, is_some, not};
 ghost use Rattle.replay.specs.Cases.{judged, stored};
 ghost use Rattle.replay.specs.Verdicts.{judged_of};
 
@@ -36,6 +36,7 @@ impl<'a> Verdict<'a> {
     }
     /// What is told of the sheet: nothing if it agrees. A name that is no text is an error.
     pub fn differing(&self) -> Result<Option<Differing<'a>>, Utf8Error>
+        ensures refused_only_if_the_name_of_a_sheet_that_differs_is_no_text { IfErr result (λ _. (self.now.agrees ≡ false) × (¬ (IsUtf8 self.now.case.name.now))) }
         ensures told_exactly_if_it_differs { IfOk result (λ told. is_some told ≡ not self.now.agrees) }
         ensures group_name_and_row_of_the_sheet { IfOk result (λ told. IfSome told (λ d. (d.group ≡ self.now.case.group) × (d.name.now ≡ self.now.case.name.now) × (d.other_row ≡ self.now.other_row))) }
     {
