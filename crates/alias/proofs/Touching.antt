@@ -10,7 +10,7 @@ use Rattle.std.proofs.lemmas.Bool.{and_parts, cases_Bool, cond-true, cond-false,
 use Rattle.std.proofs.lemmas.Bool.Decides.{Decides-eqb}
 use Rattle.std.proofs.lemmas.Slice.Eq.{bytes_eq-Decides, starts_is}
 use Rattle.texts.specs.Texts.{Text, begins, empty, ends, has}
-use Rattle.alias.specs.Forms.{DOLLAR, STAR, Form, before_star, behind, behind_star, ends_or_goes_on, exact, first_byte_fits, form, form_touches, goes_on, key, plain, touches, wildcard}
+use Rattle.alias.specs.Forms.{DOLLAR, STAR, Form, before_star, begins_otherwise, behind, behind_star, ends_or_goes_on, exact, first_byte_fits, form, form_touches, goes_on, key, plain, touches, wildcard}
 use Rattle.alias.specs.Laws.{Continues, is_plain}
 
 module _ (l : Text) where
@@ -97,9 +97,9 @@ module _ (b : ℕ) (l r : Text) (star : (b == STAR) ≡ false) (dollar : (b == D
   other_start [] h = refl
   other_start (a ∷ s) h = ap (λ (v : Bool). v && pointwise nat_eq l (take (length l) s)) (ne_eqb b a (λ (e : b ≡ a). eqb-false a b h (sym e)))
 
-  pub begins_otherwise : touches (b ∷ l) r ≡ false
+  untouched : touches (b ∷ l) r ≡ false
   unfolding touches
-  begins_otherwise = ⊎_elim
+  untouched = ⊎_elim
       (λ (e : ends DOLLAR (b ∷ l) ≡ true).
       let k = key_begins l e in
       ap (λ (f : Form). form_touches f r) (exact_form (b ∷ l) e) ∙ ap (λ (t : Text). bytes_eq t r) k.1 ∙ other_bytes r other k.0)
@@ -108,6 +108,13 @@ module _ (b : ℕ) (l r : Text) (star : (b == STAR) ≡ false) (dollar : (b == D
       (λ (s : has STAR (b ∷ l) ≡ false). ap (λ (f : Form). form_touches f r) (unstarred_form (b ∷ l) e s) ∙ ap ends_or_goes_on (cond-false _ _ _ (other_start r other)))
       (cases_Bool (has STAR (b ∷ l))))
       (cases_Bool (ends DOLLAR (b ∷ l)))
+
+pub told_apart : (l r : Text) → begins_otherwise l r ≡ true → touches l r ≡ false
+told_apart [] r h = absurd (false≢true h)
+told_apart (b ∷ l) r h =
+    let p = and_parts (not (b == STAR)) (not (b == DOLLAR) && not (begins b r)) h in
+    let q = and_parts (not (b == DOLLAR)) (not (begins b r)) p.1 in
+    untouched b l r (not-true _ p.0) (not-true _ q.0) (not-true _ q.1)
 
 -- what was found of a label as it is written
 pub touched_so : (l was r : Text) (found is : Bool) → was ≡ l → found ≡ touches was r → found ≡ is → touches l r ≡ is

@@ -1,7 +1,5 @@
 -- What the code answers for a rewritten request, and what it asks of the tree. Assumes nothing.
 use Rattle.std.specs.Prelude.{◌≡◌, ℕ, Bool, true, false, cond, not, ◌&&◌, List, length, take, Ok, Err, Result, Some, None, Option, nat_le}
-use Rattle.texts.specs.declared.text.Text.{Text as Held}
-use Rattle.texts.specs.Held.{bytes_of}
 use Rattle.texts.specs.Texts.{Text, empty}
 use Rattle.tree.specs.Meanings.{Question}
 use Rattle.alias.specs.declared.rewrite.NewRequest.{NewRequest}
@@ -18,21 +16,11 @@ text_made (made t) = Some t
 text_made too_long = None
 
 -- the answer, with n bytes of room for a text that is made
-abbrev pub told : Rewritten → ℕ → Result (Option (NewRequest ℕ)) TooLong
+abbrev pub told : Rewritten → ℕ → Result (Option NewRequest) TooLong
 told skipped n = Ok None
 told as_written n = Ok (Some Value)
 told (made t) n = cond (nat_le (length t) n) (Ok (Some (Made (length t)))) (Err (record {}))
 told too_long n = Err (record {})
-
--- what a new request whose text is held by value says; one that is none is skipped
-abbrev pub requested : Result (NewRequest (Held 255)) TooLong → Rewritten
-requested (Ok Value) = as_written
-requested (Ok (Made t)) = made (bytes_of t)
-requested (Err e) = too_long
-
-abbrev pub rewriting : Option (Result (NewRequest (Held 255)) TooLong) → Rewritten
-rewriting None = skipped
-rewriting (Some r) = requested r
 
 -- the new request, if there is one
 abbrev pub new_request : Text → Rewritten → Option Text
@@ -41,17 +29,13 @@ new_request value as_written = Some value
 new_request value (made t) = Some t
 new_request value too_long = None
 
--- the text of a new request: the value, or what is read of the text that was made
-abbrev pub request_of : {T : Type 0} → (T → Text) → Text → NewRequest T → Text
-request_of read value Value = value
-request_of read value (Made t) = read t
-
--- a text that was made stands at the front of the work text
-abbrev pub request_text : NewRequest ℕ → Text → List ℕ → Text
-request_text new value work = request_of (λ n. take n work) value new
+-- the text of a new request: the value, or a text that was made, which stands at the front of the work text
+abbrev pub request_text : NewRequest → Text → List ℕ → Text
+request_text Value value work = value
+request_text (Made n) value work = take n work
 
 -- the new request of an answer, if it has one
-abbrev pub held_request : Result (Option (NewRequest ℕ)) TooLong → Text → List ℕ → Option Text
+abbrev pub held_request : Result (Option NewRequest) TooLong → Text → List ℕ → Option Text
 held_request (Ok None) value work = None
 held_request (Ok (Some new)) value work = Some (request_text new value work)
 held_request (Err e) value work = None

@@ -1,6 +1,6 @@
 -- The forms of labels, and which requests a label touches. Assumes nothing.
 use Rattle.std.specs.List.{starts_with}
-use Rattle.std.specs.Prelude.{nat_eq, ℕ, ◌+◌, ◌-◌, Bool, true, false, cond, ◌||◌, [], ◌∷◌, length, take, drop, Some, None, Option, ◌==◌}
+use Rattle.std.specs.Prelude.{nat_eq, ℕ, ◌+◌, ◌-◌, Bool, true, false, cond, not, ◌&&◌, ◌||◌, [], ◌∷◌, length, take, drop, Some, None, Option, ◌==◌}
 use Rattle.std.specs.Str.{bytes_eq}
 use Rattle.texts.specs.Texts.{Text, SLASH, begins, empty, ends, has, until}
 
@@ -52,6 +52,11 @@ ends_or_goes_on (Some tail) = empty tail || goes_on tail
 abbrev pub first_byte_fits : Text → Text → Bool
 first_byte_fits [] r = true
 first_byte_fits (b ∷ prefix) r = begins b r
+
+-- the first byte alone tells a label apart from a request: it is neither `*` nor `$`, and the request begins otherwise
+abbrev pub begins_otherwise : Text → Text → Bool
+begins_otherwise [] r = false
+begins_otherwise (b ∷ l) r = not (b == STAR) && (not (b == DOLLAR) && not (begins b r))
 
 -- a label of this form touches a request: an exact one itself, a wildcard what has its prefix's first byte, a plain one itself and what goes on behind it
 abbrev pub form_touches : Form → Text → Bool

@@ -1,13 +1,11 @@
 -- What is left of the attempts when some were made, and what an attempt says. Assumes nothing.
 use Rattle.std.specs.Prelude.{◌≡◌, ℕ, ◌+◌, ◌-◌, Bool, true, false, cond, List, [], ◌∷◌, take, drop, Some, None, Option, Ok, Err, Result, ◌==◌, nat_lt}
-use Rattle.texts.specs.declared.text.Text.{Text as Held}
-use Rattle.texts.specs.Held.{bytes_of}
 use Rattle.texts.specs.Texts.{Text}
 use Rattle.tree.specs.Meanings.{Meaning}
 use Rattle.settings.specs.Tables.{Alias, Value, ignore, to}
 use Rattle.alias.specs.declared.attempts.Attempt.{Attempt}
 use Rattle.alias.specs.declared.attempts.Attempt.TheVariants as answer
-use Rattle.alias.specs.Answers.{request_of}
+use Rattle.alias.specs.Answers.{request_text}
 use Rattle.alias.specs.declared.attempts.Progress.{Progress}
 use Rattle.alias.specs.declared.rewrite.NewRequest.TheVariants as new
 use Rattle.alias.specs.declared.rewrite.TooLong.{TooLong}
@@ -15,7 +13,7 @@ use Rattle.alias.specs.Attempts.{Attempt as Tried, again, attempts, ignored, ove
 use Rattle.alias.specs.Forms.{key, touches}
 
 -- nothing is tried behind it
-abbrev pub ends_search : {T : Type 0} → Result (Attempt T) TooLong → Bool
+abbrev pub ends_search : Result Attempt TooLong → Bool
 ends_search (Ok (answer.Again new)) = false
 ends_search (Ok (answer.Ignored t)) = true
 ends_search (Ok answer.Unmatched) = true
@@ -26,23 +24,15 @@ abbrev pub value_text : Value → Text
 value_text ignore = []
 value_text (to v) = v
 
--- what an attempt says of a value, a label and a request, by how its text is read
-abbrev pub said_of : {T : Type 0} → (T → Text) → Text → Text → Text → Result (Attempt T) TooLong → Tried
-said_of read v l r (Ok (answer.Again new)) = again (request_of read v new)
-said_of read v l r (Ok (answer.Ignored t)) = ignored (read t)
-said_of read v l r (Ok answer.Unmatched) = unmatched r (key l)
-said_of read v l r (Err e) = overlong
-
--- what an attempt says whose text stands at the front of the work text
-abbrev pub said_by : Text → Text → Text → List ℕ → Result (Attempt ℕ) TooLong → Tried
-said_by v l r work x = said_of (λ n. take n work) v l r x
-
--- what an attempt says whose text is held by value
-abbrev pub says : Text → Text → Text → Result (Attempt (Held 255)) TooLong → Tried
-says v l r x = said_of bytes_of v l r x
+-- what an attempt says of a value, a label and a request; its text stands at the front of the work text
+abbrev pub said_by : Text → Text → Text → List ℕ → Result Attempt TooLong → Tried
+said_by v l r work (Ok (answer.Again new)) = again (request_text new v work)
+said_by v l r work (Ok (answer.Ignored n)) = ignored (take n work)
+said_by v l r work (Ok answer.Unmatched) = unmatched r (key l)
+said_by v l r work (Err e) = overlong
 
 -- how long the text is that an attempt has written
-abbrev pub written_length : Option (Result (Attempt ℕ) TooLong) → ℕ
+abbrev pub written_length : Option (Result Attempt TooLong) → ℕ
 written_length None = 0
 written_length (Some (Ok (answer.Again new.Value))) = 0
 written_length (Some (Ok (answer.Again (new.Made n)))) = n
@@ -71,16 +61,16 @@ abbrev pub value_tried : List Alias → Progress → Text
 value_tried aliases p = first_value (drop (p.value - 1) (values_of (drop p.label aliases)))
 
 -- what an attempt says, where it was made
-abbrev pub said : List Alias → Progress → Text → List ℕ → Result (Attempt ℕ) TooLong → Tried
+abbrev pub said : List Alias → Progress → Text → List ℕ → Result Attempt TooLong → Tried
 said aliases p = said_by (value_tried aliases p) (label_tried aliases p)
 
 module _ (m : Meaning) (dir r : Text) where
   -- the first of a label's values that is not passed over, at its place; or none is left
-  abbrev pub ValueFound : Alias → List Value → Bool → List Tried → Option (ℕ × Result (Attempt (Held 255)) TooLong) → Type 0
-  ValueFound a vs tried later None = value_attempts m dir r a.label vs tried later ≡ value_attempts m dir r a.label [] tried later
-  ValueFound a vs tried later (Some (i, x)) =
+  abbrev pub ValueFound : Alias → List Value → Bool → List Tried → List ℕ → Option (ℕ × Result Attempt TooLong) → Type 0
+  ValueFound a vs tried later work None = value_attempts m dir r a.label vs tried later ≡ value_attempts m dir r a.label [] tried later
+  ValueFound a vs tried later work (Some (i, x)) =
       value_attempts m dir r a.label vs tried later
-      ≡ says (first_value (drop i a.values)) a.label r x ∷ cond (ends_search x) [] (value_attempts m dir r a.label (drop (i + 1) a.values) true later)
+      ≡ said_by (first_value (drop i a.values)) a.label r work x ∷ cond (ends_search x) [] (value_attempts m dir r a.label (drop (i + 1) a.values) true later)
 
   -- the attempts of a label that touches, from one of its values on, with those of the later labels; behind the first value, one was tried
   abbrev pub values_left : Alias → Progress → List Tried → List Tried
@@ -109,8 +99,8 @@ RowTaken before None after done later = (before ≡ later) × (done ≡ false)
 RowTaken before (Some t) after done later = before ≡ t ∷ cond done [] after
 
 -- what an attempt says at its label
-abbrev pub row_said : Alias → Progress → Text → Result (Attempt (Held 255)) TooLong → Tried
-row_said a p = says (first_value (drop (p.value - 1) a.values)) a.label
+abbrev pub row_said : Alias → Progress → Text → List ℕ → Result Attempt TooLong → Tried
+row_said a p = said_by (first_value (drop (p.value - 1) a.values)) a.label
 
 -- where the labels have been come to: the same one, or the first value of another
 abbrev pub gone_to : ℕ → Progress → Progress

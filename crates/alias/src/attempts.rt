@@ -8,29 +8,30 @@ ghost use Rattle.settings.specs.Tables.{Alias};
 ghost use Rattle.tree.specs.Meanings.{Meaning};
 ghost use Rattle.alias.specs.Asked.{LabelAsked, SomeAsked, SomeLabelsAsked, ValueAsked, ValuesAsked, behind_found};
 ghost use Rattle.alias.specs.Attempts.{Attempt as Tried, attempts, ignoring, value_attempt};
-ghost use Rattle.alias.specs.Left.{RowTaken, Taken, ValueFound, ends_search, first_value, gone_to, label_tried, left, row_left, row_said, said, said_by, says, value_text, value_tried, values_left, written_length};
+ghost use Rattle.alias.specs.Left.{RowTaken, Taken, ValueFound, ends_search, first_value, gone_to, label_tried, left, row_left, row_said, said, said_by, value_text, value_tried, values_left, written_length};
 ghost use Rattle.alias.specs.Laws.{UntouchingLabelChangesNothing};
 
 use crate::label::{key, key_matches};
-use crate::rewrite::{NewRequest, TooLong, rewrite_value};
-use paths::joined;
+use crate::rewrite::{NewRequest, TooLong, load_alias_value};
+use paths::normalize_with;
 use settings::{AliasRow, AliasValue};
-use texts::{MAX_LEN, Text, copy_text};
+use texts::MAX_LEN;
 use tree::FileTree;
 
-/// What comes next for a request that a label touches; an answer gives a text as so many bytes at the front of the work text.
+/// What comes next for a request that a label touches.
 #[derive(Clone, Copy, PartialEq, Eq, Debug)]
-pub enum Attempt<T = usize> {
+pub enum Attempt {
     /// A value gives another request.
-    Again(NewRequest<T>),
-    /// The label ignores the request, and this is its path.
-    Ignored(T),
+    Again(NewRequest),
+    /// The label ignores the request, and its path has so many bytes at the front of the work text.
+    Ignored(usize),
     /// Values were tried, and none is left.
     Unmatched,
 }
 
-// An attempt whose text is held by value, or that a text would pass 255 bytes.
-type HeldAttempt = Result<Attempt<Text<MAX_LEN>>, TooLong>;
+// The caller lends the work text, by a rule of the project; so in all below that write a text to it.
+// An attempt, or that a text would pass 255 bytes; its text stands at the front of the work text, and nothing else is written there.
+type Attempted = Result<Attempt, TooLong>;
 
 // The end is a mark and no state of its own, since the label that was come to is asked for behind it too.
 /// How far the labels were tried for a request: the label that was come to, which of its values comes next, and whether all is done.
@@ -50,36 +51,21 @@ struct Import<'a> {
 }
 
 // Whether nothing is tried behind an attempt.
-fn is_last(attempt: &HeldAttempt) -> bool
+fn is_last(attempt: &Attempted) -> bool
     ensures all_but_another_request { result ≡ ends_search attempt.now }
 {
     !matches!(attempt, Ok(Attempt::Again(_)))
 }
 
-// The caller lends the work text, by a rule of the project.
-// An attempt with its text at the front of `work`, which holds any text.
-fn written(attempt: HeldAttempt, work: &mut [u8]) -> Result<Attempt, TooLong>
-    requires room_for_a_text { 255 ≤ length work.old }
-    ensures says_the_same { (v l r : Bytes) → said_by v l r work.new result ≡ says v l r attempt }
-    ensures only_its_text_is_written { work.new ≡ fronted (take (written_length (Some result)) work.new) work.old }
-{
-    match attempt? {
-        Attempt::Again(new) => Ok(Attempt::Again(new.written(work)?)),
-        Attempt::Ignored(path) => {
-            let len = copy_text(path.as_bytes(), work).ok_or(TooLong)?;
-            Ok(Attempt::Ignored(len))
-        }
-        Attempt::Unmatched => Ok(Attempt::Unmatched),
-    }
-}
-
 impl<'a> Import<'a> {
     // The attempt of a label that ignores it.
-    fn ignored(self, label: &[u8]) -> HeldAttempt
-        ensures label_joined_to_the_directory { (v r : Bytes) → says v label.now r result ≡ ignoring self.entry.directory.now label.now }
+    fn ignored(self, label: &[u8], work: &mut [u8]) -> Attempted
+        requires room_for_a_text { 255 ≤ length work.old }
+        ensures label_joined_to_the_directory { (v r : Bytes) → said_by v label.now r work.new result ≡ ignoring self.entry.directory.now label.now }
+        ensures only_its_text_is_written { work.new ≡ fronted (take (written_length (Some result)) work.new) work.old }
     {
-        let path = joined(self.directory, key(label)).ok_or(TooLong)?;
-        Ok(Attempt::Ignored(path))
+        let len = normalize_with(self.directory, key(label), work).ok_or(TooLong)?;
+        Ok(Attempt::Ignored(len))
     }
 
     // The attempt of one value of a label that touches it; none if the value is passed over.
@@ -88,17 +74,20 @@ impl<'a> Import<'a> {
         tree: &mut T,
         label: &[u8],
         value: &AliasValue,
-    ) -> Option<HeldAttempt>
+        work: &mut [u8],
+    ) -> Option<Attempted>
         requires sound { T.FileTree.sound tree.old }
-        ensures attempt_of_the_value { option_map (says (value_text (value_of value.now)) label.now self.entry.request.now) result ≡ value_attempt (T.FileTree.meaning tree.old) self.entry.directory.now self.entry.request.now label.now (value_of value.now) }
+        requires room_for_a_text { 255 ≤ length work.old }
+        ensures attempt_of_the_value { option_map (said_by (value_text (value_of value.now)) label.now self.entry.request.now work.new) result ≡ value_attempt (T.FileTree.meaning tree.old) self.entry.directory.now self.entry.request.now label.now (value_of value.now) }
+        ensures only_its_text_is_written { work.new ≡ fronted (take (written_length result) work.new) work.old }
         ensures asked_once_if_a_plain_label_has_a_tail { ValueAsked T.FileTree.steps label.now self.entry.request.now (value_of value.now) tree.old tree.new }
         ensures same_meaning { T.FileTree.meaning tree.new ≡ T.FileTree.meaning tree.old }
         ensures still_sound { T.FileTree.sound tree.new }
     {
         match value {
-            AliasValue::Ignore => Some(self.ignored(label)),
+            AliasValue::Ignore => Some(self.ignored(label, work)),
             AliasValue::Path(text) => {
-                let new = rewrite_value(tree, label, text, self.request)?;
+                let new = load_alias_value(tree, label, text, self.request, work).transpose()?;
                 Some(new.map(Attempt::Again))
             }
         }
@@ -110,10 +99,13 @@ impl<'a> Import<'a> {
         tree: &mut T,
         row: &AliasRow,
         from: usize,
-    ) -> Option<(usize, HeldAttempt)>
+        work: &mut [u8],
+    ) -> Option<(usize, Attempted)>
         requires sound { T.FileTree.sound tree.old }
-        ensures first_value_that_is_not_passed_over { (tried : Bool) (later : List Tried) → ValueFound (T.FileTree.meaning tree.old) self.entry.directory.now self.entry.request.now (alias_of row.now) (drop from (alias_of row.now).values) tried later result }
+        requires room_for_a_text { 255 ≤ length work.old }
+        ensures first_value_that_is_not_passed_over { (tried : Bool) (later : List Tried) → ValueFound (T.FileTree.meaning tree.old) self.entry.directory.now self.entry.request.now (alias_of row.now) (drop from (alias_of row.now).values) tried later work.new result }
         ensures place_among_four { IfSome result (λ x. x.0 < 4) }
+        ensures only_its_text_is_written { work.new ≡ fronted (take (written_length (option_map (λ x. x.1) result)) work.new) work.old }
         ensures asked_value_by_value { ValuesAsked T.FileTree.steps (alias_of row.now).label self.entry.request.now (drop from (alias_of row.now).values) (behind_found (alias_of row.now).values result) tree.old tree.new }
         ensures same_meaning { T.FileTree.meaning tree.new ≡ T.FileTree.meaning tree.old }
         ensures still_sound { T.FileTree.sound tree.new }
@@ -122,7 +114,7 @@ impl<'a> Import<'a> {
         let values = row.values();
         // Labels and their values are gone through by their index, by a rule of the project.
         for i in from..values.len() {
-            if let Some(attempt) = self.try_value(tree, label, &values[i]) {
+            if let Some(attempt) = self.try_value(tree, label, &values[i], work) {
                 return Some((i, attempt));
             }
         }
@@ -197,16 +189,19 @@ impl Progress {
         tree: &mut T,
         row: &AliasRow,
         import: Import,
-    ) -> Option<HeldAttempt>
+        work: &mut [u8],
+    ) -> Option<Attempted>
         requires sound { T.FileTree.sound tree.old }
+        requires room_for_a_text { 255 ≤ length work.old }
         requires not_done { self.old.done ≡ false }
         ensures same_label { self.new.label ≡ self.old.label }
-        ensures next_of_its_values { (later : List Tried) → RowTaken (values_left (T.FileTree.meaning tree.old) import.entry.directory.now import.entry.request.now (alias_of row.now) self.old later) (option_map (row_said (alias_of row.now) self.new import.entry.request.now) result) (values_left (T.FileTree.meaning tree.old) import.entry.directory.now import.entry.request.now (alias_of row.now) self.new later) self.new.done later }
+        ensures next_of_its_values { (later : List Tried) → RowTaken (values_left (T.FileTree.meaning tree.old) import.entry.directory.now import.entry.request.now (alias_of row.now) self.old later) (option_map (row_said (alias_of row.now) self.new import.entry.request.now work.new) result) (values_left (T.FileTree.meaning tree.old) import.entry.directory.now import.entry.request.now (alias_of row.now) self.new later) self.new.done later }
+        ensures only_its_text_is_written { work.new ≡ fronted (take (written_length result) work.new) work.old }
         ensures asked_value_by_value { SomeAsked T.FileTree.steps (alias_of row.now).label import.entry.request.now true (drop self.old.value (alias_of row.now).values) tree.old tree.new }
         ensures same_meaning { T.FileTree.meaning tree.new ≡ T.FileTree.meaning tree.old }
         ensures still_sound { T.FileTree.sound tree.new }
     {
-        if let Some((i, attempt)) = import.next_value(tree, row, self.value) {
+        if let Some((i, attempt)) = import.next_value(tree, row, self.value, work) {
             self.value = i + 1;
             self.done = is_last(&attempt);
             return Some(attempt);
@@ -218,7 +213,6 @@ impl Progress {
         Some(Ok(Attempt::Unmatched))
     }
 
-    // The caller lends the work text, by a rule of the project.
     /// The next attempt for a request from a directory: none is left, another request, or an end. A text that is made is written to the front of `work`, which holds any text if it has 255 bytes.
     #[tactic(auto, using(crate::proofs::Attempting::untouched))]
     pub fn next<T: FileTree>(
@@ -252,8 +246,8 @@ impl Progress {
             if !key_matches(row.label(), request) {
                 continue;
             }
-            if let Some(attempt) = self.try_values(tree, row, import) {
-                return Some(written(attempt, work));
+            if let Some(attempt) = self.try_values(tree, row, import, work) {
+                return Some(attempt);
             }
         }
         self.done = true;

@@ -1,7 +1,7 @@
 // The forms of labels, and which requests a label touches.
 ghost use Rattle.std.specs.Prelude.{◌≡◌, true, false, MatchOption};
 ghost use Rattle.texts.specs.Texts.{has};
-ghost use Rattle.alias.specs.Forms.{STAR, before_star, behind_star, first_byte_fits, form, form_touches, goes_on, key as key_of, touches};
+ghost use Rattle.alias.specs.Forms.{STAR, before_star, begins_otherwise, behind_star, first_byte_fits, form, form_touches, goes_on, key as key_of, touches};
 ghost use Rattle.alias.specs.Labels.{formed};
 ghost use Rattle.alias.specs.Laws.{ExactTouchesItself, PlainTouchesWhatItContinues};
 
@@ -83,9 +83,8 @@ fn begins_alike(prefix: &[u8], request: &[u8]) -> bool
 
 // Most labels are told apart from a request by one byte, before their form is known.
 // Whether the first bytes alone show that a label does not touch a request.
-#[tactic(auto, using(crate::proofs::Touching::begins_otherwise))]
 fn begins_otherwise(label: &[u8], request: &[u8]) -> bool
-    ensures then_it_does_not_touch { result ≡ true → touches label.now request.now ≡ false }
+    ensures other_first_byte { result ≡ begins_otherwise label.now request.now }
 {
     match label {
         [first, ..] => *first != b'*' && *first != b'$' && !begins_alike(label, request),
@@ -94,7 +93,7 @@ fn begins_otherwise(label: &[u8], request: &[u8]) -> bool
 }
 
 /// Whether a label touches a request.
-#[tactic(auto, using(crate::proofs::Touching::plain_touches, crate::proofs::Touching::exact_touches), unfolding(crate::specs::Forms::touches))]
+#[tactic(auto, using(crate::proofs::Touching::plain_touches, crate::proofs::Touching::exact_touches, crate::proofs::Touching::told_apart), unfolding(crate::specs::Forms::touches))]
 pub fn key_matches(label: &[u8], request: &[u8]) -> bool
     ensures touched_by_its_form { result ≡ touches label.now request.now }
     ensures plain_label_touches_itself_and_what_continues_it { PlainTouchesWhatItContinues label.now request.now }

@@ -22,24 +22,24 @@ returns-in-Some-clause-next_in_the_list g c =
     let a = alias_of c.index-aliases-i.result in
     let new = c.try_values.new.self in
     let x = c.in-Some.attempt in
+    let work = c.try_values.new.work in
     let gone = c.go_to.ensures.same_label_or_a_fresh_one in
     let step = mapped_from alias_of c.args.aliases.now i c.index-aliases-i.result c.loop-i-test.true c.index-aliases-i.is in
     let at : new.label ≡ i = c.in-Some.ensures.same_label ∙ ap (λ (p : Progress). p.label) gone ∙ gone_label i c.loop-i.self in
     let later = attempts m d r (drop (i + 1) ls) in
     let touched : touches a.label r ≡ true = touched_so a.label c.label.result.now r c.key_matches.result true c.label.ensures.label_as_written c.key_matches.ensures.touched_by_its_form c.if-not-key_matches.false in
-    let taken : row_left m d r a c.go_to.new.self later ≡ row_said a new r x ∷ cond new.done [] (row_left m d r a new later) =
+    let taken : row_left m d r a c.go_to.new.self later ≡ row_said a new r work x ∷ cond new.done [] (row_left m d r a new later) =
     cond-true _ _ _ touched
     ∙ (λ k. values_left (sym c.loop-i.invariant.same_meaning k) d r a c.go_to.new.self later)
     ∙ c.in-Some.ensures.next_of_its_values later
-    ∙ (λ k. row_said a new r x ∷ cond new.done [] (values_left (c.loop-i.invariant.same_meaning k) d r a new later))
-    ∙ ap (λ (ts : List Tried). row_said a new r x ∷ cond new.done [] ts) (sym (cond-true _ _ _ touched)) in
+    ∙ (λ k. row_said a new r work x ∷ cond new.done [] (values_left (c.loop-i.invariant.same_meaning k) d r a new later))
+    ∙ ap (λ (ts : List Tried). row_said a new r work x ∷ cond new.done [] ts) (sym (cond-true _ _ _ touched)) in
     let begin : left m d r ls c.args.self.now ≡ left_of m d r (drop c.args.self.now.label ls) c.args.self.now = cond-false _ _ _ c.if-self.false in
     λ h.
     begin
     ∙ sym c.loop-i.invariant.left_from_there
     ∙ ap (λ (p : Progress). left_of m d r (drop i ls) p) (sym gone)
-    ∙ next_taken m d r ls i a step c.go_to.new.self new x at taken
-    ∙ ap (λ (t : Tried). t ∷ left m d r ls new) (sym (c.written.ensures.says_the_same (value_tried ls new) (label_tried ls new) r))
+    ∙ next_taken m d r ls i a step c.go_to.new.self new work x at taken
 
 pub loop-i-preserved : goal.loop-i-preserved
 loop-i-preserved g c =
@@ -62,7 +62,7 @@ loop-i-preserved g c =
     record {
       sound = c.try_values.ensures.still_sound;
       same_meaning = c.try_values.ensures.same_meaning ∙ c.loop-i.invariant.same_meaning;
-      nothing_written = c.loop-i.invariant.nothing_written;
+      nothing_written = c.in_default.ensures.only_its_text_is_written ∙ c.loop-i.invariant.nothing_written;
       not_done = (c.in_default.ensures.next_of_its_values later).1;
       not_beyond = omega arith;
       asked_label_by_label =
