@@ -48,7 +48,7 @@ fn root_len(text: &[u8]) -> usize
 
 // Where the text is cut off whose parts are on the stack.
 fn kept_len(text: &[u8], parts: &mut Stack<Place>) -> usize
-    requires { items parts.old ≡ places text.now }
+    requires parts_of_the_text { items parts.old ≡ places text.now }
     ensures length_after_the_cut { result ≡ cut_length text.now (marks text.now) }
     ensures within_the_text { result ≤ length text.now }
 {
@@ -61,7 +61,7 @@ fn kept_len(text: &[u8], parts: &mut Stack<Place>) -> usize
 
 // How much of `text` stays when `..` cuts it.
 fn parent_len(text: &[u8]) -> usize
-    requires { length text.now ≤ 255 }
+    requires short { length text.now ≤ 255 }
     ensures length_after_the_cut { result ≡ cut_length text.now (marks text.now) }
     ensures within_the_text { result ≤ length text.now }
 {

@@ -7,7 +7,7 @@ use crate::bytes::{position, same_bytes};
 
 // How long the piece is that begins at `start`.
 pub(crate) fn piece_len(text: &[u8], start: usize) -> usize
-    requires { start ≤ length text.now }
+    requires within_the_text { start ≤ length text.now }
     ensures up_to_the_slash { result ≡ until 47 (drop start text.now) }
     ensures ends_within_the_text { start + result ≤ length text.now }
 {

@@ -5,7 +5,7 @@ ghost use Rattle.stack.specs.Items.{items, capacity, item_at};
 use crate::lifo::{Full, Stack};
 
 fn slot<T: Copy>(slots: &[T], i: usize) -> T
-    requires { i < length slots.now }
+    requires among_the_slots { i < length slots.now }
     ensures item_in_the_slot { result ≡ slice_index_or slots.now i result }
 {
     slots[i]

@@ -26,7 +26,7 @@ fn first_part(text: &[u8]) -> Option<Place>
 
 // The next part behind `at`, where an earlier one ended. Its place is wanted, and `split` would give the pieces without their places.
 fn later_part(text: &[u8], at: usize) -> Option<Place>
-    requires { (0 < at) × (at ≤ length text.now) }
+    requires behind_the_first_byte { (0 < at) × (at ≤ length text.now) }
     ensures next_part_or_none_left { MatchOption result (marks_left text.now at ≡ []) (Next text.now at) }
 {
     let mut start = at;
@@ -46,7 +46,7 @@ fn later_part(text: &[u8], at: usize) -> Option<Place>
 
 // The next part from `at` on.
 fn next_part(text: &[u8], at: usize) -> Option<Place>
-    requires { at ≤ length text.now }
+    requires within_the_text { at ≤ length text.now }
     ensures next_part_or_none_left { MatchOption result (marks_left text.now at ≡ []) (Next text.now at) }
 {
     if at == 0 {

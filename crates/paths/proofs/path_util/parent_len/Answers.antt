@@ -13,6 +13,9 @@ kept_len-requires c =
     let t = c.args.text.now in
     let room : length (items c.new-parts.result) + length (parts t) ≤ capacity c.new-parts.result =
     omega (arith, ap length c.new-parts.ensures.no_items, c.new-parts.ensures.capacity_is_the_slots, (parts_weight t).1, length-map (marks t) (λ (m : Mark). m.0)) in
-    c.push_parts.ensures.places_on_top
-    ∙ cond-true _ _ _ (c.push_parts.ensures.room_for_all ∙ le-leb _ _ room)
-    ∙ ap (λ (xs : List Place). xs ++ places t) c.new-parts.ensures.no_items
+    record {
+      parts_of_the_text =
+          c.push_parts.ensures.places_on_top
+          ∙ cond-true _ _ _ (c.push_parts.ensures.room_for_all ∙ le-leb _ _ room)
+          ∙ ap (λ (xs : List Place). xs ++ places t) c.new-parts.ensures.no_items;
+    }
