@@ -4,7 +4,7 @@ ghost use Rattle.cache.specs.Held.{Agrees, Stepped, held};
 ghost use Rattle.cache.specs.Seen.{holds_text};
 
 use crate::recent::Recent;
-use texts::{MAX_LEN, Text};
+use texts::{MAX_LEN, path_hash};
 use tree::{Broken, FileTree, Host, Kind, Manifest, Way};
 
 /// A host that holds the kinds of the last 64 different paths asked.
@@ -58,11 +58,12 @@ impl<H: FileTree> FileTree for Cache<H> {
         if path.len() > MAX_LEN {
             return self.below.kind(path);
         }
-        if let Some(kind) = self.recent.recall(path) {
+        let hash = path_hash(path);
+        if let Some(kind) = self.recent.recall(path, hash) {
             return kind;
         }
         let kind = self.below.kind(path);
-        self.recent.remember(Text::new(path).unwrap(), kind);
+        self.recent.remember(path, hash, kind);
         kind
     }
 }

@@ -1,8 +1,9 @@
 -- When paths are the same; of clean ones their bytes decide. Assumes nothing.
-use Rattle.std.proofs.Common.{◌≡◌, Bool, true, false, List, [], ◌∷◌, sym, refl, ap, ◌∙◌}
+use Rattle.std.proofs.Common.{◌≡◌, ℕ, Bool, true, false, eqb, List, [], ◌∷◌, sym, refl, ap, ◌∙◌}
 use Rattle.std.specs.Str.{bytes_eq}
-use Rattle.std.proofs.lemmas.Bool.{and_from, and_parts, false≢true}
+use Rattle.std.proofs.lemmas.Bool.{and_from, and_parts, cond-false, eqb-false, false≢true}
 use Rattle.std.proofs.lemmas.Slice.Eq.{bytes_eq-Decides}
+use Rattle.texts.specs.Hashes.{path_hash}
 use Rattle.texts.specs.Texts.{Text}
 use Rattle.texts.specs.Parts.{clean, parts, same_parts, written}
 use Rattle.texts.proofs.CleanPaths.{clean_written}
@@ -35,3 +36,24 @@ clean_same a b ca cb = at (bytes_eq a b) (same_parts (parts a) (parts b)) refl r
         let same : parts a ≡ parts b = same_means_equal (parts a) (parts b) f in
         let bytes : a ≡ b = sym (clean_written a ca) ∙ ap written same ∙ clean_written b cb in
         absurd (false≢true (sym e ∙ (bytes_eq-Decides a b).1 bytes))
+
+-- a path that has a hash is clean
+hash_clean : (t : Text) (n : ℕ) → n ≡ path_hash t → eqb n 0 ≡ false → clean t ≡ true
+hash_clean t n e h = at (clean t) refl
+  where
+    at : (v : Bool) → clean t ≡ v → clean t ≡ true
+    at true c = c
+    at false c = absurd (eqb-false n 0 h (e ∙ cond-false _ _ _ c))
+
+module _ (a b : Text) (m n : ℕ) (ha : m ≡ path_hash a) (hb : n ≡ path_hash b) (fa : eqb m 0 ≡ false) (fb : eqb n 0 ≡ false) where
+  -- paths of one hash are the same exactly if their bytes are
+  pub hashed_same : bytes_eq a b ≡ same_parts (parts a) (parts b)
+  hashed_same = clean_same a b (hash_clean a m ha fa) (hash_clean b n hb fb)
+
+  -- paths of two hashes are not the same
+  pub hashed_apart : eqb m n ≡ false → false ≡ same_parts (parts a) (parts b)
+  hashed_apart f = at (bytes_eq a b) refl ∙ hashed_same
+    where
+      at : (v : Bool) → bytes_eq a b ≡ v → false ≡ bytes_eq a b
+      at false e = sym e
+      at true e = absurd (eqb-false m n f (ha ∙ ap path_hash ((bytes_eq-Decides a b).0 e) ∙ sym hb))

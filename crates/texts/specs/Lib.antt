@@ -4,3 +4,4 @@ pub mod Scans
 pub mod Taken
 pub mod Texts
 pub mod Walks
+pub mod Hashes

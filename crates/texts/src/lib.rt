@@ -13,6 +13,6 @@ pub use bytes::{
     same_bytes, trim_final_slashes,
 };
 pub use components::Components;
-pub use path::{count_parts, is_clean, push_parts, same_known_path, same_path};
+pub use path::{count_parts, is_clean, path_hash, push_parts, same_hashed_path, same_path};
 pub use place::Place;
 pub use text::Text;

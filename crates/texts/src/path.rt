@@ -1,6 +1,7 @@
 // Paths: clean ones, and what their parts say.
 ghost use Rattle.std.specs.Prelude.{◌≡◌, ◌+◌, ◌<◌, ◌≤◌, true, ◌++◌, length, is_ok, if◌then◌else◌, nat_le};
 ghost use Rattle.stack.specs.Items.{items, capacity};
+ghost use Rattle.texts.specs.Hashes.{hashed, path_hash};
 ghost use Rattle.texts.specs.Parts.{clean, clean_pieces, every, named, parts, pieces, places, same_parts, written};
 
 use crate::bytes::same_bytes;
@@ -52,18 +53,42 @@ pub fn same_path(a: &[u8], b: &[u8]) -> bool
     right.next().is_none()
 }
 
-/// Whether two texts are the same path, where `are_clean` may say that both are clean: then their bytes decide.
+// A number below 128 from the bytes of a text.
+fn hash(text: &[u8]) -> u8
+    ensures from_all_bytes { result ≡ hashed 0 text.now }
+    ensures below_128 { result < 128 }
+{
+    let mut hash = 0;
+    let mut left = text;
+    while let [byte, behind @ ..] = left {
+        hash = (31 * hash + *byte as usize) % 128;
+        left = behind;
+    }
+    hash as u8
+}
+
+/// The hash of a clean path; any other has 0.
+pub fn path_hash(path: &[u8]) -> u8
+    ensures hash_of_a_clean_path { result ≡ path_hash path.now }
+{
+    if !is_clean(path) {
+        return 0;
+    }
+    128 + hash(path)
+}
+
+/// Whether two texts are the same path, by their hashes. Clean paths are the same if their bytes are.
 #[inline]
-#[tactic(auto, using(crate::proofs::SamePaths::clean_same))]
-pub fn same_known_path(a: &[u8], b: &[u8], are_clean: bool) -> bool
-    requires both_are_clean_if_so { are_clean ≡ true → (clean a.now ≡ true) × (clean b.now ≡ true) }
+#[tactic(auto, using(crate::proofs::SamePaths::hashed_same, crate::proofs::SamePaths::hashed_apart))]
+pub fn same_hashed_path(a: &[u8], a_hash: u8, b: &[u8], b_hash: u8) -> bool
+    requires hash_of_the_first { a_hash ≡ path_hash a.now }
+    requires hash_of_the_second { b_hash ≡ path_hash b.now }
     ensures part_for_part { result ≡ same_parts (parts a.now) (parts b.now) }
 {
-    if are_clean {
-        same_bytes(a, b)
-    } else {
-        same_path(a, b)
+    if a_hash == 0 || b_hash == 0 {
+        return same_path(a, b);
     }
+    a_hash == b_hash && same_bytes(a, b)
 }
 
 /// How many parts a text has.

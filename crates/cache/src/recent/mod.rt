@@ -1,8 +1,8 @@
 // The kinds of the last paths asked, the latest first. The structs stand alone in their file: the definitions in specs/ name them.
-ghost use Rattle.std.specs.Prelude.{◌≡◌, ℕ, ◌==◌, true, length, count_by, nat_lt, if◌then◌else◌};
+ghost use Rattle.std.specs.Prelude.{◌≡◌, ℕ, ◌==◌, length, count_by, nat_lt, if◌then◌else◌};
 ghost use Rattle.stack.specs.Held.{held};
 ghost use Rattle.texts.specs.Held.{bytes_of};
-ghost use Rattle.texts.specs.Parts.{clean};
+ghost use Rattle.texts.specs.Hashes.{path_hash};
 
 use stack::ArrayVec;
 use texts::{MAX_LEN, Text};
@@ -16,10 +16,10 @@ const ROOM: usize = 64;
 #[derive(Clone, Copy)]
 pub struct Entry {
     path: Text<MAX_LEN>,
-    // kept, so that clean paths can be compared by their bytes
-    is_clean: bool,
+    // kept, since most paths are told apart by it
+    hash: u8,
     kind: Kind,
-    ghost clean_if_so: { is_clean ≡ true → clean (bytes_of path) ≡ true },
+    ghost hash_of_the_path: { hash ≡ path_hash (bytes_of path) },
 }
 
 // An entry stays in its slot, since it is much larger than the number of the slot, which moves.

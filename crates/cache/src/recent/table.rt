@@ -1,25 +1,24 @@
 // What is done with the entries and the order of their slots.
-ghost use Rattle.std.specs.Prelude.{◌≡◌, ◌<◌, [], None, length};
+ghost use Rattle.std.specs.Prelude.{◌≡◌, ◌<◌, ◌≤◌, [], None, length};
 ghost use Rattle.stack.specs.Held as list;
-ghost use Rattle.texts.specs.Held.{bytes_of};
+ghost use Rattle.texts.specs.Hashes.{path_hash};
 ghost use Rattle.texts.specs.Parts.{parts};
 ghost use Rattle.cache.specs.Seen.{Placed, fresh, holds, recalled, remember, renewed};
 ghost use Rattle.cache.specs.Held.{held, in_slot, seen};
 
 use super::{Entry, ROOM, Recent};
 use stack::ArrayVec;
-use texts::{MAX_LEN, Text, is_clean, same_known_path};
+use texts::{Text, path_hash, same_hashed_path};
 use tree::Kind;
 
 impl Entry {
-    fn new(path: Text<MAX_LEN>, kind: Kind) -> Entry
-        ensures path_with_its_kind { seen result ≡ fresh (parts (bytes_of path)) kind }
+    fn new(path: &[u8], hash: u8, kind: Kind) -> Entry
+        requires short_path { length path.now ≤ 255 }
+        requires hash_of_the_path { hash ≡ path_hash path.now }
+        ensures path_with_its_kind { seen result ≡ fresh (parts path.now) kind }
     {
-        Entry {
-            path,
-            is_clean: is_clean(path.as_bytes()),
-            kind,
-        }
+        let path = Text::new(path).unwrap();
+        Entry { path, hash, kind }
     }
 }
 
@@ -28,7 +27,7 @@ impl Recent {
     pub fn new() -> Recent
         ensures nothing_held { held result ≡ [] }
     {
-        let blank = Entry::new(Text::empty(), Kind::Nothing);
+        let blank = Entry::new(b"", path_hash(b""), Kind::Nothing);
         let entries = ArrayVec::new(blank);
         let order = ArrayVec::new(0);
         Recent { entries, order }
@@ -51,13 +50,13 @@ impl Recent {
     }
 
     // Where in the order the path is held.
-    fn place(&self, path: &[u8]) -> Option<usize>
+    fn place(&self, path: &[u8], hash: u8) -> Option<usize>
+        requires hash_of_the_path { hash ≡ path_hash path.now }
         ensures place_if_held { Placed (parts path.now) (held self.now) result }
     {
-        let is_clean = is_clean(path);
         self.order.as_slice().iter().position(|slot| {
             let entry = self.entry(*slot);
-            same_known_path(entry.path.as_bytes(), path, is_clean && entry.is_clean)
+            same_hashed_path(entry.path.as_bytes(), entry.hash, path, hash)
         })
     }
 
@@ -65,26 +64,31 @@ impl Recent {
     pub fn holds(&self, path: &[u8]) -> bool
         ensures by_its_parts { result ≡ holds (parts path.now) (held self.now) }
     {
-        self.place(path).is_some()
+        self.place(path, path_hash(path)).is_some()
     }
 
     // The kind of a path that is held, which becomes the latest.
-    pub fn recall(&mut self, path: &[u8]) -> Option<Kind>
+    pub fn recall(&mut self, path: &[u8], hash: u8) -> Option<Kind>
+        requires hash_of_the_path { hash ≡ path_hash path.now }
         ensures kind_if_held { result ≡ recalled (parts path.now) (held self.old) }
         ensures becomes_the_latest { held self.new ≡ renewed (parts path.now) (held self.old) }
     {
-        let i = self.place(path)?;
+        let i = self.place(path, hash)?;
         let slot = self.order.move_to_front(i).unwrap();
         let entry = self.entry(slot);
         Some(entry.kind)
     }
 
+    // Never inline: else a question whose path is held would pay for an entry that it does not make.
     // A path that is not held becomes the latest; the one asked longest ago gives way.
-    pub fn remember(&mut self, path: Text<MAX_LEN>, kind: Kind)
-        requires not_held_yet { recalled (parts (bytes_of path)) (held self.old) ≡ None }
-        ensures becomes_the_latest { held self.new ≡ remember (parts (bytes_of path)) kind (held self.old) }
+    #[inline(never)]
+    pub fn remember(&mut self, path: &[u8], hash: u8, kind: Kind)
+        requires short_path { length path.now ≤ 255 }
+        requires hash_of_the_path { hash ≡ path_hash path.now }
+        requires not_held_yet { recalled (parts path.now) (held self.old) ≡ None }
+        ensures becomes_the_latest { held self.new ≡ remember (parts path.now) kind (held self.old) }
     {
-        let entry = Entry::new(path, kind);
+        let entry = Entry::new(path, hash, kind);
         let count = self.order.as_slice().len();
         // A slot of its own while there is room, and then the slot of the path asked longest ago.
         if count < ROOM {

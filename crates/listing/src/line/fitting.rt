@@ -1,12 +1,13 @@
 // What a line says.
-ghost use Rattle.std.specs.Prelude.{◌≡◌, ◌≤◌, true, [], length};
-ghost use Rattle.texts.specs.Parts.{clean, parts, same_parts};
+ghost use Rattle.std.specs.Prelude.{◌≡◌, ◌≤◌, [], length};
+ghost use Rattle.texts.specs.Hashes.{path_hash};
+ghost use Rattle.texts.specs.Parts.{parts, same_parts};
 ghost use Rattle.listing.specs.Rows.{is_main, is_manifest, kind_listed, row, row_of};
-ghost use Rattle.listing.specs.Meanings.{asked, fits};
+ghost use Rattle.listing.specs.Meanings.{asked, fits, lists_kind, lists_manifest, lists_way};
 
 use crate::kinds::{LineKind, Topic};
 use crate::line::Line;
-use texts::{MAX_LEN, Text, is_clean, same_bytes, same_known_path};
+use texts::{MAX_LEN, Text, path_hash, same_bytes, same_hashed_path};
 use tree::{Kind, Way};
 
 impl Line {
@@ -17,7 +18,7 @@ impl Line {
         Line {
             kind: LineKind::File,
             first: Text::empty(),
-            is_clean: false,
+            hash: path_hash(b""),
             second: Text::empty(),
         }
     }
@@ -30,33 +31,52 @@ impl Line {
         Line {
             kind,
             first: Text::new(first).unwrap(),
-            is_clean: is_clean(first),
+            hash: path_hash(first),
             second: Text::new(second).unwrap(),
         }
     }
 
-    // Whether the line has the path `text`, of which `is_clean` may say that it is clean.
-    fn has_path(&self, text: &[u8], is_clean: bool) -> bool
-        requires clean_if_so { is_clean ≡ true → clean text.now ≡ true }
+    // Whether the line has the path `text`, which has this hash.
+    fn has_path(&self, text: &[u8], hash: u8) -> bool
+        requires hash_of_the_path { hash ≡ path_hash text.now }
         ensures same_path_part_for_part { result ≡ same_parts (parts (row self.now).first) (parts text.now) }
     {
-        same_known_path(self.first.as_bytes(), text, self.is_clean && is_clean)
+        same_hashed_path(self.first.as_bytes(), self.hash, text, hash)
     }
 
-    // Whether the line decides what is asked about `text`, of which `is_clean` may say that it is a clean path.
-    pub(crate) fn fits(&self, topic: Topic, text: &[u8], is_clean: bool) -> bool
-        requires clean_if_so { is_clean ≡ true → clean text.now ≡ true }
+    // Whether the line decides what is asked about `text`, which has this hash as a path.
+    pub(crate) fn fits(&self, topic: Topic, text: &[u8], hash: u8) -> bool
+        requires hash_of_the_path { hash ≡ path_hash text.now }
         ensures fits_what_is_asked { result ≡ fits (asked topic text.now) (row self.now) }
     {
-        let first = self.first.as_bytes();
-        match (topic, self.kind) {
-            (Topic::Kind, LineKind::File | LineKind::Directory) => self.has_path(text, is_clean),
-            (Topic::Manifest, LineKind::BrokenManifest | LineKind::Manifest) => self.has_path(
-                text, is_clean,
-            ),
-            (Topic::Lookup(Way::Package), LineKind::Package) => same_bytes(first, text),
-            (Topic::Lookup(Way::Hash), LineKind::Hash) => same_bytes(first, text),
-            _ => false,
+        match topic {
+            Topic::Kind => self.lists_kind() && self.has_path(text, hash),
+            Topic::Manifest => self.lists_manifest() && self.has_path(text, hash),
+            Topic::Lookup(way) => self.lists_way(way) && same_bytes(self.first.as_bytes(), text),
+        }
+    }
+
+    // Whether the line lists a file or a directory.
+    fn lists_kind(&self) -> bool
+        ensures file_or_directory { result ≡ lists_kind self.now.kind }
+    {
+        matches!(self.kind, LineKind::File | LineKind::Directory)
+    }
+
+    // Whether the line lists a manifest, a broken one or not.
+    fn lists_manifest(&self) -> bool
+        ensures manifest_or_a_broken_one { result ≡ lists_manifest self.now.kind }
+    {
+        matches!(self.kind, LineKind::BrokenManifest | LineKind::Manifest)
+    }
+
+    // Whether the line lists what a lookup asks for.
+    fn lists_way(&self, way: Way) -> bool
+        ensures lookup_of_its_way { result ≡ lists_way way self.now.kind }
+    {
+        match way {
+            Way::Package => matches!(self.kind, LineKind::Package),
+            Way::Hash => matches!(self.kind, LineKind::Hash),
         }
     }
 

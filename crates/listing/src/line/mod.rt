@@ -1,7 +1,7 @@
 // One line of a listing. The struct stands alone in its file: the definitions in specs/ name it.
-ghost use Rattle.std.specs.Prelude.{◌≡◌, true};
+ghost use Rattle.std.specs.Prelude.{◌≡◌};
 ghost use Rattle.texts.specs.Held.{bytes_of};
-ghost use Rattle.texts.specs.Parts.{clean};
+ghost use Rattle.texts.specs.Hashes.{path_hash};
 
 use crate::kinds::LineKind;
 use texts::{MAX_LEN, Text};
@@ -13,8 +13,8 @@ mod fitting;
 pub struct Line {
     pub(crate) kind: LineKind,
     pub(crate) first: Text<MAX_LEN>,
-    // kept, so that clean paths can be compared by their bytes
-    is_clean: bool,
+    // kept, since most paths are told apart by it
+    hash: u8,
     pub(crate) second: Text<MAX_LEN>,
-    ghost clean_if_so: { is_clean ≡ true → clean (bytes_of first) ≡ true },
+    ghost hash_of_the_first: { hash ≡ path_hash (bytes_of first) },
 }

@@ -9,7 +9,7 @@ ghost use Rattle.listing.specs.Rows.{row};
 use crate::kinds::Topic;
 use crate::line::Line;
 use crate::listing::Listing;
-use texts::is_clean;
+use texts::path_hash;
 
 impl Listing {
     pub(crate) fn line(&self, i: usize) -> &Line
@@ -24,11 +24,9 @@ impl Listing {
         ensures place_of_the_first_that_fits { result ≡ place (asked topic text.now) (rows self.now) }
         ensures rows_from_there_decide { MatchOption result (deciding (asked topic text.now) (rows self.now) ≡ []) (DecidesAt (asked topic text.now) (rows self.now)) }
     {
-        let is_clean = is_clean(text);
+        let hash = path_hash(text);
         let lines = self.lines.as_slice();
-        lines
-            .iter()
-            .position(|line| line.fits(topic, text, is_clean))
+        lines.iter().position(|line| line.fits(topic, text, hash))
     }
 
     // This one and the next share the front of their chains, which cannot be handed out.

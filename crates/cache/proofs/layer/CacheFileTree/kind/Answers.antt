@@ -1,9 +1,7 @@
-use Rattle.std.proofs.Common.{◌≡◌, ◌<◌, true, length, None, Option, MatchOption, sym, refl, ap, ◌∙◌, subst}
+use Rattle.std.proofs.Common.{◌≡◌, true, length, None, sym, refl, ap, ◌∙◌, subst}
 use Rattle.std.proofs.lemmas.Bool.{le-leb}
-use Rattle.texts.specs.declared.text.Text as Held
-use Rattle.texts.specs.Held.{bytes_of}
 use Rattle.texts.specs.Parts.{parts}
-use Rattle.texts.specs.Texts.{Text, fits}
+use Rattle.texts.specs.Texts.{fits}
 use Rattle.tree.specs.Meanings.{Meaning}
 use Rattle.cache.specs.Held.{Agrees, held}
 use Rattle.cache.specs.Seen.{recalled, remember}
@@ -35,13 +33,12 @@ returns g c =
     let es = held c.args.self.now.recent in
     let tree = (g.H.FileTree.meaning c.args.self.now.below).kind in
     let k = c.kind-kind.result in
-    let same : bytes_of c.unwrap.result ≡ t = subst (λ (o : Option (Held.Text 255)). MatchOption o (255 < length t) (λ u. bytes_of u ≡ t)) c.unwrap.ensures c.new.ensures.same_bytes_or_too_many in
     let short : fits t ≡ true = le-leb (length t) 255 c.if-path-gt-MAX_LEN.false in
     let none : recalled p es ≡ None = sym c.in_default.ensures.kind_if_held in
     let kept : held c.recall.new.self ≡ es = c.in_default.ensures.becomes_the_latest ∙ renewed_none p es none in
     let is : k ≡ tree p = c.kind-kind.ensures.answer_by_the_meaning in
     let new : held c.remember.new.self ≡ remember p k es =
-    c.remember.ensures.becomes_the_latest ∙ ap (λ (u : Text). remember (parts u) k (held c.recall.new.self)) same ∙ ap (remember p k) kept in
+    c.remember.ensures.becomes_the_latest ∙ ap (remember p k) kept in
     let agrees : Agrees tree (held c.remember.new.self) = subst (Agrees tree) (sym new) (agrees_remember p tree es k is c.requires.sound.1) in
     record {
       answer_by_the_meaning = is;

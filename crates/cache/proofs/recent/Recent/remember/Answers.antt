@@ -2,7 +2,6 @@ use Rattle.std.proofs.Common.{◌≡◌, ◌+◌, ℕ, cond, ltb, [], ◌∷◌,
 use Rattle.std.proofs.lemmas.List.{length-append, length-set}
 use Rattle.stack.proofs.Slots.{held_within}
 use Rattle.stack.specs.Held as list
-use Rattle.texts.specs.Held.{bytes_of}
 use Rattle.texts.specs.Parts.{parts}
 use Rattle.cache.specs.Held.{in_slot}
 use Rattle.cache.proofs.Moves.{both_put, remembered_behind, remembered_over}
@@ -49,7 +48,7 @@ returns-then-count-lt-ROOM c =
     record {
       becomes_the_latest =
           (λ k. map (in_slot (now.0 k)) (now.1 k))
-          ∙ remembered_behind (parts (bytes_of c.args.path)) c.args.kind es is x c.new-entry.ensures.path_with_its_kind s.each_slot_once c.requires.not_held_yet (omega arith);
+          ∙ remembered_behind (parts c.args.path.now) c.args.kind es is x c.new-entry.ensures.path_with_its_kind s.each_slot_once c.requires.not_held_yet (omega arith);
     }
 
 pub returns-else-count-lt-ROOM : goal.returns-else-count-lt-ROOM
@@ -62,5 +61,5 @@ returns-else-count-lt-ROOM c =
     record {
       becomes_the_latest =
           (λ k. map (in_slot (c.set.ensures.only_that_item_changes k)) (now.1 k))
-          ∙ remembered_over (parts (bytes_of c.args.path)) c.args.kind es is c.new-entry.result c.new-entry.ensures.path_with_its_kind s.each_slot_once c.requires.not_held_yet c.unwrap-oldest.result now.0 (held_within s.order);
+          ∙ remembered_over (parts c.args.path.now) c.args.kind es is c.new-entry.result c.new-entry.ensures.path_with_its_kind s.each_slot_once c.requires.not_held_yet c.unwrap-oldest.result now.0 (held_within s.order);
     }
