@@ -1,3 +1,4 @@
 pub mod Placing
 pub mod Mains
 pub mod Asking
+pub mod Writing

@@ -1,9 +1,8 @@
 -- What the code answers for a candidate. Assumes nothing.
-use Rattle.std.specs.Prelude.{ℕ, List, take, Some, None, Option, Ok, Err, Result}
-use Rattle.texts.specs.Held.{bytes_of}
-use Rattle.texts.specs.declared.text.Text.{Text as Held}
+use Rattle.std.specs.Prelude.{ℕ, List, ◌++◌, take, Some, None, Option, Ok, Err, Result}
 use Rattle.texts.specs.Texts.{Text}
 use Rattle.candidates.specs.declared.forming.Fault.{Fault}
+use Rattle.candidates.specs.declared.forming.Stem.{Stem}
 use Rattle.candidates.specs.declared.forming.Fault.TheVariants.{BrokenManifest, TooLong}
 use Rattle.candidates.specs.Candidates.{Candidate, broken_at, overlong, try}
 
@@ -17,10 +16,9 @@ abbrev pub said : Text → List ℕ → Result ℕ Fault → Candidate
 said p out (Ok n) = try (take n out)
 said p out (Err f) = faulted p f
 
--- what is formed for a path, with the text by value
-abbrev pub formed_by : {N : ℕ} → Text → Result (Held N) Fault → Candidate
-formed_by p (Ok t) = try (bytes_of t)
-formed_by p (Err f) = faulted p f
+-- the text that an extension goes behind
+abbrev pub stem_text : Stem → Text
+stem_text s = (s.path.now ++ s.slash.now) ++ s.name.now
 
 -- how long the text is that was written
 abbrev pub written_length : Option (Result ℕ Fault) → ℕ

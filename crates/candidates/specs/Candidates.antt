@@ -24,8 +24,8 @@ abbrev pub main_text : Text → Text
 main_text m = cond (empty m || begins SLASH m) (DOT ∷ SLASH ∷ m) m
 
 -- a request that asks for what is in a directory: it ends in a slash or is `.`; `..` does not count
-abbrev pub inward : Text → Bool
-inward r = ends SLASH r || bytes_eq r here
+abbrev pub asks_for_directory : Text → Bool
+asks_for_directory r = ends SLASH r || bytes_eq r here
 
 abbrev pub is_directory : Kind → Bool
 is_directory Nothing = false

@@ -8,7 +8,7 @@ use Rattle.tree.specs.Meanings.{Meaning, Noted, missing, noted, unnoted, unreada
 use Rattle.settings.specs.declared.enforcement.EnforceExtension.{EnforceExtension}
 use Rattle.settings.specs.declared.enforcement.EnforceExtension.TheVariants.{Auto, Enabled}
 use Rattle.settings.specs.Tables.{Tables}
-use Rattle.candidates.specs.Candidates.{Candidate, broken_at, candidates, inward, try}
+use Rattle.candidates.specs.Candidates.{Candidate, broken_at, candidates, asks_for_directory, try}
 
 -- settings with these extensions and main files
 abbrev pub set : List Text → List Text → EnforceExtension → Tables
@@ -58,4 +58,4 @@ samples =
 
 -- each request has these candidates
 abbrev pub EachSampleHolds : Type 0
-EachSampleHolds = AllByRecursion (λ s. candidates s.tables s.fully s.tree (inward s.request) s.path ≡ s.all) samples
+EachSampleHolds = AllByRecursion (λ s. candidates s.tables s.fully s.tree (asks_for_directory s.request) s.path ≡ s.all) samples

@@ -1,5 +1,5 @@
 // All candidates of a path that is looked for, one after the other.
-ghost use Rattle.std.specs.Prelude.{◌≡◌, ◌<◌, ◌≤◌, Bool, false, Err, None, Some, length, take, if◌then◌else◌};
+ghost use Rattle.std.specs.Prelude.{◌≡◌, ◌<◌, ◌≤◌, ℕ, Bool, List, false, Err, None, Some, length, take};
 ghost use Rattle.std.specs.Option.{option_map};
 ghost use Rattle.texts.specs.Held.{bytes_of};
 ghost use Rattle.texts.specs.Texts.{Text as Bytes, fronted};
@@ -7,7 +7,7 @@ ghost use Rattle.paths.specs.Joins.{joined as joined_of};
 ghost use Rattle.tree.specs.Meanings.{Meaning};
 ghost use Rattle.settings.specs.Meant.{tables};
 ghost use Rattle.settings.specs.Tables.{Tables};
-ghost use Rattle.candidates.specs.Answers.{formed_by, said, written_length};
+ghost use Rattle.candidates.specs.Answers.{said, written_length};
 ghost use Rattle.candidates.specs.Asked.{AskedBetween, DirectoryAsked, ahead};
 ghost use Rattle.candidates.specs.Candidates.{candidates, main_text};
 ghost use Rattle.candidates.specs.Left.{Stepped, Taken, behind_main, behind_path, ended, left, rank, stage_left};
@@ -17,7 +17,7 @@ use crate::forming::{Fault, Formed};
 use crate::places::{Form, Sought};
 use paths::joined;
 use settings::Settings;
-use texts::{MAX_LEN, Text, copy_text};
+use texts::{MAX_LEN, Text};
 use tree::{Broken, FileTree, Host, Kind, MAX_MAIN};
 
 // The longest main text behind `./`, in bytes.
@@ -29,7 +29,7 @@ const MAX_JOINED: usize = MAX_MAIN + 2;
 enum Stage {
     Path(Form),
     Directory,
-    Main(usize, Form),
+    Main(u8, Form),
     Done,
 }
 
@@ -37,7 +37,7 @@ enum Stage {
 #[derive(Clone, Copy)]
 pub struct Walk {
     stage: Stage,
-    place: usize,
+    place: u8,
 }
 
 // A main text as it is joined: behind `./` if it is empty or absolute.
@@ -76,8 +76,8 @@ impl Form {
     }
 
     // The stage behind the candidates of a main text.
-    fn behind_main(self, main: usize) -> Stage
-        requires few_main_texts { main ≤ 255 }
+    fn behind_main(self, main: u8) -> Stage
+        requires few_main_texts { main < 255 }
         ensures main_files_or_the_next_main_text { result ≡ behind_main main self }
     {
         match self {
@@ -96,12 +96,14 @@ fn begin(stage: Stage) -> Walk
 
 // Each step says of its own stage what is left then, and that it is nearer to the end. The last match stands in two of them: a function for both would take the candidate, both stages and the place.
 // The path in one of the two forms: the candidate at a place, or the next stage.
-fn step_path(sought: &Sought, form: Form, place: usize) -> (Option<Formed>, Walk)
-    ensures next_or_moved { (m : Meaning) → Stepped (stage_left (tables sought.now.settings.now) sought.now.fully_specified sought.now.path.now m (Stage.Path form) place) (option_map (formed_by sought.now.path.now) result.0) (left (tables sought.now.settings.now) sought.now.fully_specified sought.now.path.now m result.1) }
+fn step_path(sought: &Sought, form: Form, place: u8, out: &mut [u8]) -> (Option<Formed>, Walk)
+    requires room_for_a_text { 255 ≤ length out.old }
+    ensures next_or_moved { (m : Meaning) → Stepped (stage_left (tables sought.now.settings.now) sought.now.fully_specified sought.now.path.now m (Stage.Path form) place) (option_map (said sought.now.path.now out.new) result.0) (left (tables sought.now.settings.now) sought.now.fully_specified sought.now.path.now m result.1) }
     ensures nearer_to_the_end { result.0 ≡ None → rank result.1.stage < rank (Stage.Path form) }
     ensures same_side_of_the_directory { ahead result.1.stage ≡ ahead (Stage.Path form) }
+    ensures only_its_text_is_written { out.new ≡ fronted (take (written_length result.0) out.new) out.old }
 {
-    match sought.candidate(form, place) {
+    match sought.candidate(form, place as usize, out) {
         Some(candidate) => {
             let stage = Stage::Path(form);
             let place = place + 1;
@@ -114,9 +116,10 @@ fn step_path(sought: &Sought, form: Form, place: usize) -> (Option<Formed>, Walk
 // Whether the path is a directory, and its manifest; each is asked once.
 fn step_directory<H: Host>(host: &mut H, path: &[u8]) -> (Option<Formed>, Walk)
     requires sound { H.FileTree.sound host.old }
-    ensures next_or_moved { (t : Tables) (fully : Bool) → Stepped (stage_left t fully path.now (H.FileTree.meaning host.old) Stage.Directory 0) (option_map (formed_by path.now) result.0) (left t fully path.now (H.FileTree.meaning host.old) result.1) }
+    ensures next_or_moved { (t : Tables) (fully : Bool) (out : List ℕ) → Stepped (stage_left t fully path.now (H.FileTree.meaning host.old) Stage.Directory 0) (option_map (said path.now out) result.0) (left t fully path.now (H.FileTree.meaning host.old) result.1) }
     ensures nearer_to_the_end { result.0 ≡ None → rank result.1.stage < rank Stage.Directory }
     ensures past_the_directory { ahead result.1.stage ≡ false }
+    ensures no_text { written_length result.0 ≡ 0 }
     ensures asked_once_for_kind_and_manifest { DirectoryAsked H.FileTree.steps (H.FileTree.meaning host.old) path.now host.old host.new }
     ensures same_meaning { H.FileTree.meaning host.new ≡ H.FileTree.meaning host.old }
     ensures still_sound { H.FileTree.sound host.new }
@@ -135,16 +138,19 @@ fn step_directory<H: Host>(host: &mut H, path: &[u8]) -> (Option<Formed>, Walk)
 fn step_main<H: Host>(
     host: &H,
     sought: &Sought,
-    main: usize,
+    main: u8,
     form: Form,
-    place: usize,
+    place: u8,
+    out: &mut [u8],
 ) -> (Option<Formed>, Walk)
     requires sound { H.FileTree.sound host.now }
-    ensures next_or_moved { Stepped (stage_left (tables sought.now.settings.now) sought.now.fully_specified sought.now.path.now (H.FileTree.meaning host.now) (Stage.Main main form) place) (option_map (formed_by sought.now.path.now) result.0) (left (tables sought.now.settings.now) sought.now.fully_specified sought.now.path.now (H.FileTree.meaning host.now) result.1) }
+    requires room_for_a_text { 255 ≤ length out.old }
+    ensures next_or_moved { Stepped (stage_left (tables sought.now.settings.now) sought.now.fully_specified sought.now.path.now (H.FileTree.meaning host.now) (Stage.Main main form) place) (option_map (said sought.now.path.now out.new) result.0) (left (tables sought.now.settings.now) sought.now.fully_specified sought.now.path.now (H.FileTree.meaning host.now) result.1) }
     ensures nearer_to_the_end { result.0 ≡ None → rank result.1.stage < rank (Stage.Main main form) }
     ensures past_the_directory { ahead result.1.stage ≡ false }
+    ensures only_its_text_is_written { out.new ≡ fronted (take (written_length result.0) out.new) out.old }
 {
-    let Some(text) = host.main_text(sought.path, main) else {
+    let Some(text) = host.main_text(sought.path, main as usize) else {
         return (None, begin(Stage::Path(Form::Index)));
     };
     let Some(joined) = join_main(sought.path, text) else {
@@ -155,7 +161,7 @@ fn step_main<H: Host>(
         fully_specified: sought.fully_specified,
         path: joined.as_bytes(),
     };
-    match below.candidate(form, place) {
+    match below.candidate(form, place as usize, out) {
         Some(candidate) => {
             let stage = Stage::Main(main, form);
             let place = place + 1;
@@ -178,32 +184,36 @@ impl Walk {
     }
 
     // One step: a candidate is formed, or the walk moves on to the next stage.
-    fn step<H: Host>(self, host: &mut H, sought: &Sought) -> (Option<Formed>, Walk)
+    fn step<H: Host>(self, host: &mut H, sought: &Sought, out: &mut [u8]) -> (Option<Formed>, Walk)
         requires sound { H.FileTree.sound host.old }
-        ensures next_or_moved { Stepped (left (tables sought.now.settings.now) sought.now.fully_specified sought.now.path.now (H.FileTree.meaning host.old) self) (option_map (formed_by sought.now.path.now) result.0) (left (tables sought.now.settings.now) sought.now.fully_specified sought.now.path.now (H.FileTree.meaning host.old) result.1) }
+        requires room_for_a_text { 255 ≤ length out.old }
+        ensures next_or_moved { Stepped (left (tables sought.now.settings.now) sought.now.fully_specified sought.now.path.now (H.FileTree.meaning host.old) self) (option_map (said sought.now.path.now out.new) result.0) (left (tables sought.now.settings.now) sought.now.fully_specified sought.now.path.now (H.FileTree.meaning host.old) result.1) }
         ensures nearer_to_the_end { result.0 ≡ None → ended self.stage ≡ false → rank result.1.stage < rank self.stage }
+        ensures only_its_text_is_written { out.new ≡ fronted (take (written_length result.0) out.new) out.old }
         ensures asked_only_at_the_directory { AskedBetween H.FileTree.steps (H.FileTree.meaning host.old) sought.now.path.now self.stage result.1.stage host.old host.new }
         ensures same_meaning { H.FileTree.meaning host.new ≡ H.FileTree.meaning host.old }
         ensures still_sound { H.FileTree.sound host.new }
     {
         match self.stage {
-            Stage::Path(form) => step_path(sought, form, self.place),
+            Stage::Path(form) => step_path(sought, form, self.place, out),
             Stage::Directory => step_directory(host, sought.path),
-            Stage::Main(main, form) => step_main(host, sought, main, form, self.place),
+            Stage::Main(main, form) => step_main(host, sought, main, form, self.place, out),
             Stage::Done => (None, self),
         }
     }
 
-    // The next candidate of a path, with its text by value; none is left at the end.
-    fn advance<H: Host>(&mut self, host: &mut H, sought: &Sought) -> Option<Formed>
+    // The next candidate of a path; none is left at the end.
+    fn advance<H: Host>(&mut self, host: &mut H, sought: &Sought, out: &mut [u8]) -> Option<Formed>
         requires sound { H.FileTree.sound host.old }
-        ensures next_in_the_list { Taken (left (tables sought.now.settings.now) sought.now.fully_specified sought.now.path.now (H.FileTree.meaning host.old) self.old) (option_map (formed_by sought.now.path.now) result) (left (tables sought.now.settings.now) sought.now.fully_specified sought.now.path.now (H.FileTree.meaning host.old) self.new) }
+        requires room_for_a_text { 255 ≤ length out.old }
+        ensures next_in_the_list { Taken (left (tables sought.now.settings.now) sought.now.fully_specified sought.now.path.now (H.FileTree.meaning host.old) self.old) (option_map (said sought.now.path.now out.new) result) (left (tables sought.now.settings.now) sought.now.fully_specified sought.now.path.now (H.FileTree.meaning host.old) self.new) }
+        ensures only_its_text_is_written { out.new ≡ fronted (take (written_length result) out.new) out.old }
         ensures asked_only_at_the_directory { AskedBetween H.FileTree.steps (H.FileTree.meaning host.old) sought.now.path.now self.old.stage self.new.stage host.old host.new }
         ensures same_meaning { H.FileTree.meaning host.new ≡ H.FileTree.meaning host.old }
         ensures still_sound { H.FileTree.sound host.new }
     {
         while self.stage != Stage::Done {
-            let (candidate, then) = self.step(host, sought);
+            let (candidate, then) = self.step(host, sought, out);
             *self = then;
             if candidate.is_some() {
                 return candidate;
@@ -212,7 +222,6 @@ impl Walk {
         None
     }
 
-    // The caller lends the buffer, by a rule of the project.
     /// The next candidate of a path, by the length of its text, or why nothing more is tried; none is left at the end. The text is written to the front of `out`, which holds any text if it has 255 bytes.
     pub fn next<H: Host>(
         &mut self,
@@ -238,10 +247,6 @@ impl Walk {
             fully_specified,
             path,
         };
-        // By hand, not by `map`: of what a closure writes to `out` the proof did not close.
-        match self.advance(host, &sought)? {
-            Ok(text) => Some(Ok(copy_text(text.as_bytes(), out).unwrap())),
-            Err(fault) => Some(Err(fault)),
-        }
+        self.advance(host, &sought, out)
     }
 }

@@ -20,7 +20,7 @@ use Rattle.settings.specs.Meant.{tables}
 use Rattle.settings.specs.Tables.{Alias, Tables}
 use Rattle.settings.proofs.Limited.{within_limits}
 use Rattle.alias.specs.Forms.{touches}
-use Rattle.candidates.specs.Candidates.{Candidate, broken_at, candidates, inward, overlong, try}
+use Rattle.candidates.specs.Candidates.{Candidate, broken_at, candidates, asks_for_directory, overlong, try}
 use Rattle.lookup.specs.Laws.{all_untouched, candidates_of, unmarked, untouched}
 use Rattle.lookup.specs.Outcomes.{Room, answer, refusal}
 use Rattle.lookup.specs.Quiet.{First, NonePasses, NothingFoundIfNonePasses, QuietCall, QuietRequestGivesTheFirst}
@@ -76,7 +76,7 @@ none_touches (a ∷ more) r = at (touches a.label r) (none_touches more r)
     at false ih = ih
 
 -- the candidates of a path, told by a host of the same meaning
-pub offered_of : (m n : Meaning) (allowed : Allowed) (t : Tables) (dir r p : Text) (inside : Bool) (js : List Judged) → n ≡ m → p ≡ join dir r → inside ≡ inward r
+pub offered_of : (m n : Meaning) (allowed : Allowed) (t : Tables) (dir r p : Text) (inside : Bool) (js : List Judged) → n ≡ m → p ≡ join dir r → inside ≡ asks_for_directory r
     → js ≡ map (judged n allowed t.restrictions) (candidates t t.fully_specified n inside p)
     → js ≡ map (judged m allowed t.restrictions) (candidates_of m t dir r)
 offered_of m n allowed t dir r p inside js same is asks h =

@@ -25,7 +25,7 @@ mod trial;
 
 use answer::ask;
 use cache::Cache;
-use candidates::is_inward;
+use candidates::asks_for_directory;
 use cause::Cause;
 use ending::LookupEnd;
 use front::fill;
@@ -71,7 +71,7 @@ fn explain_text(
         host,
         &policy,
         settings,
-        is_inward(question.request),
+        asks_for_directory(question.request),
         path.as_bytes(),
     )?;
     let offered = Offered {

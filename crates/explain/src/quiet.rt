@@ -19,7 +19,7 @@ use crate::offer::{Offer, Verdict, offers};
 use crate::question::Question;
 use crate::reading::sought;
 use crate::sentence::{QuietEnd, any_touches};
-use candidates::{Fault, is_inward};
+use candidates::{Fault, asks_for_directory};
 use settings::{AliasRow, Settings};
 use specifier::Branch;
 use std::alloc::{AllocError, Global};
@@ -126,7 +126,14 @@ pub fn quiet_offers<H: Host, P: Policy>(
     if !is_readable(host, path) {
         return Ok(None);
     }
-    let offers = offers(alloc, host, policy, settings, is_inward(request), path)?;
+    let offers = offers(
+        alloc,
+        host,
+        policy,
+        settings,
+        asks_for_directory(request),
+        path,
+    )?;
     if !all_untouched(settings.aliases(), &offers) {
         return Ok(None);
     }

@@ -12,7 +12,7 @@ use Rattle.tree.specs.Meanings.{Meaning}
 use Rattle.settings.specs.Tables.{Tables}
 use Rattle.alias.specs.Attempts.{Attempt, attempts}
 use Rattle.alias.specs.Attempts as attempt
-use Rattle.candidates.specs.Candidates.{Candidate, candidates, inward, is_directory, try}
+use Rattle.candidates.specs.Candidates.{Candidate, candidates, asks_for_directory, is_directory, try}
 use Rattle.lookup.specs.Calls.{Call, again, labelled, marked, resumed, testing, trying, waiting}
 use Rattle.lookup.specs.Faults.{Fault, empty_request, long_text, not_found, passes_on, recursion, stays}
 use Rattle.lookup.specs.Lookups.{Context, Ended, by_way, counted, ends_in, failed, find, look, loosened, missed, or_next, require, round, taking, with_fragment, with_marks}
@@ -72,7 +72,7 @@ module _ (m : Meaning) (allowed : Allowed) (t : Tables) (limit : ℕ) where
     pub goes_its_way : on (labelled dir r []) (missed c) ≡ by_way m allowed t anew (branch r) dir r c
     goes_its_way = refl
 
-    pub looks_at_candidates : t.context ≡ false → look m allowed t anew dir r c ≡ on (trying dir (candidates t c.fully m (inward dir) r)) (missed c)
+    pub looks_at_candidates : t.context ≡ false → look m allowed t anew dir r c ≡ on (trying dir (candidates t c.fully m (asks_for_directory dir) r)) (missed c)
     looks_at_candidates h = cond-false _ _ _ h
 
     -- after labels: a fault that a label's next value follows counts as nothing, any other stands

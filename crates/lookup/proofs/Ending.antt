@@ -11,7 +11,7 @@ use Rattle.tree.specs.declared.answers.Way.TheVariants as asked
 use Rattle.tree.specs.Acceptances.{Allowed}
 use Rattle.tree.specs.Meanings.{Finding, Meaning, faulty, found, missing}
 use Rattle.settings.specs.Tables.{Tables}
-use Rattle.candidates.specs.Candidates.{candidates, inward, is_directory}
+use Rattle.candidates.specs.Candidates.{candidates, asks_for_directory, is_directory}
 use Rattle.lookup.specs.Faults.{empty_request, long_text, not_found, recursion, stays}
 use Rattle.lookup.specs.Laws.{decisive}
 use Rattle.lookup.specs.Lookups.{Context, Ended, answered_by, by_labels, by_way, counted, ends_in, failed, find, look, missed, or_alone, or_next, require, round, taking, tests, with_fragment, with_marks}
@@ -41,9 +41,9 @@ module _ (m : Meaning) (allowed : Allowed) (t : Tables) where
     look_decides r p c =
         one_decides t.context
         (cond (is_directory (m.kind (parts p))) (ends_in p c) (failed (not_found r) c))
-        (or_next (tests m allowed t again (candidates t c.fully m (inward r) p) c) (λ d. failed (not_found r) d))
+        (or_next (tests m allowed t again (candidates t c.fully m (asks_for_directory r) p) c) (λ d. failed (not_found r) d))
         (one_decides (is_directory (m.kind (parts p))) (ends_in p c) (failed (not_found r) c) refl refl)
-        (next_decides (tests m allowed t again (candidates t c.fully m (inward r) p) c) (λ d. failed (not_found r) d) (λ d. refl))
+        (next_decides (tests m allowed t again (candidates t c.fully m (asks_for_directory r) p) c) (λ d. failed (not_found r) d) (λ d. refl))
 
     way_decides : (b : Branch) (dir r : Text) (c : Context) → decisive (by_way m allowed t again b dir r c) ≡ true
     way_decides way.Absolute dir r c = look_decides r (unslashed r) c

@@ -12,7 +12,7 @@ use Rattle.specifier.specs.Accepted.{askable, startable}
 use Rattle.tree.specs.Meanings.{Meaning, Noted, Proper, mains, noted, unnoted, unreadable}
 use Rattle.settings.specs.Limits.{WithinLimits, extension_kept, main_file_kept}
 use Rattle.settings.specs.Tables.{Tables, enforced}
-use Rattle.candidates.specs.Candidates.{Candidate, candidates, directory_candidates, extended, files, formed, indexed, indexes, inward, is_directory, main_candidates, main_text, manifest_candidates, overlong, try}
+use Rattle.candidates.specs.Candidates.{Candidate, candidates, directory_candidates, extended, files, formed, indexed, indexes, asks_for_directory, is_directory, main_candidates, main_text, manifest_candidates, overlong, try}
 use Rattle.lookup.specs.Faults.{bad_directory, bad_request, no_memory}
 use Rattle.lookup.specs.Outcomes.{Room, refusal, roomy}
 use Rattle.lookup.specs.Quiet.{AllFits, IsText, MainJoins, QuietCall, readable}
@@ -115,5 +115,5 @@ all_fits m t room dir r call =
       path_joins = j.1 (omega (arith, d, l));
       path_is_short = short;
       mains_join = mains_join (join dir r) (mains (m.manifest (parts (join dir r)))) short (call.proper.short_mains (parts (join dir r)));
-      candidates_are_texts = candidates_fit t call.limits t.fully_specified (join dir r) short m call.proper call.quiet.manifest_readable (inward r);
+      candidates_are_texts = candidates_fit t call.limits t.fully_specified (join dir r) short m call.proper call.quiet.manifest_readable (asks_for_directory r);
     }

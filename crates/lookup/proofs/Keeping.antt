@@ -15,7 +15,7 @@ use Rattle.tree.specs.Meanings.{Finding, Meaning, Path, faulty, found, missing}
 use Rattle.settings.specs.Tables.{Tables}
 use Rattle.alias.specs.Attempts.{Attempt, attempts}
 use Rattle.alias.specs.Attempts as attempt
-use Rattle.candidates.specs.Candidates.{Candidate, broken_at, candidates, inward, is_directory, overlong, try}
+use Rattle.candidates.specs.Candidates.{Candidate, broken_at, candidates, asks_for_directory, is_directory, overlong, try}
 use Rattle.lookup.specs.Faults.{empty_request, long_text, not_found, passes_on, recursion, stays}
 use Rattle.lookup.specs.Lookups.{Context, Ended, answered_by, by_labels, by_way, counted, ends_in, failed, find, look, loosened, missed, or_alone, or_next, or_value, require, round, taking, tested, tests, tries, with_fragment, with_marks}
 
@@ -105,9 +105,9 @@ module _ (m : Meaning) (allowed : Allowed) (t : Tables) (limit : ℕ) (In : Cont
     look_keeps r p c h = at t.context refl
       where
         at : (b : Bool) → t.context ≡ b
-            → Keeps (cond b (cond (is_directory (m.kind (parts p))) (ends_in p c) (failed (not_found r) c)) (or_next (tests m allowed t again (candidates t c.fully m (inward r) p) c) (λ d. failed (not_found r) d)))
+            → Keeps (cond b (cond (is_directory (m.kind (parts p))) (ends_in p c) (failed (not_found r) c)) (or_next (tests m allowed t again (candidates t c.fully m (asks_for_directory r) p) c) (λ d. failed (not_found r) d)))
         at true e = either (is_directory (m.kind (parts p))) (ends_in p c) (failed (not_found r) c) (k.in_context e p, h) h
-        at false e = next_keeps (tests m allowed t again (candidates t c.fully m (inward r) p) c) (λ d. failed (not_found r) d) (tests_keep (candidates t c.fully m (inward r) p) c h) (λ d g. g)
+        at false e = next_keeps (tests m allowed t again (candidates t c.fully m (asks_for_directory r) p) c) (λ d. failed (not_found r) d) (tests_keep (candidates t c.fully m (asks_for_directory r) p) c h) (λ d g. g)
 
     way_keeps : (b : Branch) (dir r : Text) (c : Context) → In c → Keeps (by_way m allowed t again b dir r c)
     way_keeps way.Absolute dir r c h = look_keeps r (unslashed r) c h

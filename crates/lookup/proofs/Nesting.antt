@@ -13,7 +13,7 @@ use Rattle.tree.specs.Meanings.{Meaning}
 use Rattle.settings.specs.Tables.{Tables}
 use Rattle.alias.specs.Attempts.{Attempt, attempts}
 use Rattle.alias.specs.Attempts as attempt
-use Rattle.candidates.specs.Candidates.{Candidate, broken_at, candidates, inward, is_directory, overlong, try}
+use Rattle.candidates.specs.Candidates.{Candidate, broken_at, candidates, asks_for_directory, is_directory, overlong, try}
 use Rattle.lookup.specs.Faults.{empty_request, long_text, not_found, passes_on, recursion, stays}
 use Rattle.lookup.specs.Lookups.{Context, Ended, by_labels, by_way, counted, ends_in, failed, find, look, loosened, missed, or_alone, or_next, or_value, require, round, taking, tested, tests, tries, with_fragment, with_marks}
 use Rattle.lookup.proofs.Keeping.{Every, Keeps, Kept, by_rounds, find_keeps, require_keeps, tested_keeps, tries_keep}
@@ -71,7 +71,7 @@ module _ (m : Meaning) (allowed : Allowed) (t : Tables) (limit k : ℕ) where
     look_same : (r p : Text) (c : Context) → Late c → look m allowed t again r p c ≡ look m allowed t other r p c
     look_same r p c h =
         ap (λ (x : Ended). cond t.context (cond (is_directory (m.kind (parts p))) (ends_in p c) (failed (not_found r) c)) (or_next x (λ d. failed (not_found r) d)))
-        (tests_same (candidates t c.fully m (inward r) p) c h)
+        (tests_same (candidates t c.fully m (asks_for_directory r) p) c h)
 
     way_same : (b : Branch) (dir r : Text) (c : Context) → Late c → by_way m allowed t again b dir r c ≡ by_way m allowed t other b dir r c
     way_same way.Absolute dir r c h = look_same r (unslashed r) c h

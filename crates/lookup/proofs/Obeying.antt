@@ -14,7 +14,7 @@ use Rattle.tree.specs.Meanings.{Finding, Meaning, faulty, found, missing}
 use Rattle.settings.specs.Tables.{Tables}
 use Rattle.alias.specs.Attempts.{Attempt, attempts}
 use Rattle.alias.specs.Attempts as attempt
-use Rattle.candidates.specs.Candidates.{Candidate, broken_at, candidates, inward, is_directory, overlong, try}
+use Rattle.candidates.specs.Candidates.{Candidate, broken_at, candidates, asks_for_directory, is_directory, overlong, try}
 use Rattle.lookup.specs.Faults.{Fault, empty_request, long_text, not_found, passes_on, recursion, stays}
 use Rattle.lookup.specs.Laws.{decisive}
 use Rattle.lookup.specs.Lookups.{Context, Ended, answered_by, by_way, counted, ends_in, failed, find, look, loosened, missed, or_alone, or_next, or_value, require, round, taking, tests, tries, with_fragment, with_marks}
@@ -209,16 +209,16 @@ module _ (m : Meaning) (allowed : Allowed) (t : Tables) (limit : ℕ) where
     place_obeys : (r p : Text) (c : Context) → limit ≤ n + c.rounds → Ends m allowed t limit (a_place r p) c (look m allowed t (Again n) r p c)
     place_obeys r p c g = at t.context (is_directory (m.kind (parts p))) refl refl
       where
-        listed : (e : Ended) → t.context ≡ false → Ends m allowed t limit (the_candidates (candidates t c.fully m (inward r) p)) c e → Ends m allowed t limit (a_place r p) c (or_next e (λ d. failed (not_found r) d))
+        listed : (e : Ended) → t.context ≡ false → Ends m allowed t limit (the_candidates (candidates t c.fully m (asks_for_directory r) p)) c e → Ends m allowed t limit (a_place r p) c (or_next e (λ d. failed (not_found r) d))
         listed (ends_in s d) x w = rule.candidates_decide x w refl
         listed (missed d) x w = rule.no_candidate_passes x w
         listed (failed f d) x w = rule.candidates_decide x w refl
 
         at : (b k : Bool) → t.context ≡ b → is_directory (m.kind (parts p)) ≡ k
-            → Ends m allowed t limit (a_place r p) c (cond b (cond k (ends_in p c) (failed (not_found r) c)) (or_next (tests m allowed t (Again n) (candidates t c.fully m (inward r) p) c) (λ d. failed (not_found r) d)))
+            → Ends m allowed t limit (a_place r p) c (cond b (cond k (ends_in p c) (failed (not_found r) c)) (or_next (tests m allowed t (Again n) (candidates t c.fully m (asks_for_directory r) p) c) (λ d. failed (not_found r) d)))
         at true true x k = rule.directory_in_context x k
         at true false x k = rule.nothing_in_context x k
-        at false b x k = listed (tests m allowed t (Again n) (candidates t c.fully m (inward r) p) c) x (candidates_obey (candidates t c.fully m (inward r) p) c g)
+        at false b x k = listed (tests m allowed t (Again n) (candidates t c.fully m (asks_for_directory r) p) c) x (candidates_obey (candidates t c.fully m (asks_for_directory r) p) c g)
 
     -- a request that no label rewrites
     way_obeys : (dir r : Text) (c d : Context) (b : Branch) → limit ≤ n + d.rounds → Ends m allowed t limit (labels_on m allowed t limit dir r) c (missed d) → branch r ≡ b

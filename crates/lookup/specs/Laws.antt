@@ -11,7 +11,7 @@ use Rattle.tree.specs.Meanings.{Meaning, Path, found}
 use Rattle.settings.specs.Tables.{Alias, Tables, Value, labelled}
 use Rattle.alias.specs.Forms.{touches}
 use Rattle.alias.specs.Laws.{Continues, is_plain}
-use Rattle.candidates.specs.Candidates.{Candidate, broken_at, candidates, inward, overlong, try}
+use Rattle.candidates.specs.Candidates.{Candidate, broken_at, candidates, asks_for_directory, overlong, try}
 use Rattle.lookup.specs.Faults.{Fault, broken_manifest, long_text, not_found, precedes}
 use Rattle.lookup.specs.Lookups.{Context, Ended, ends_in, failed, missed, require}
 use Rattle.lookup.specs.Outcomes.{Outcome, Room, answer, area_after, handed_out, path, refusal, refused, rounds_at_most, rounds_of}
@@ -61,7 +61,7 @@ decided m allowed restrictions r (overlong ∷ more) = refused long_text 1
 
 -- the candidates of a relative request
 abbrev pub candidates_of : Meaning → Tables → Text → Text → List Candidate
-candidates_of m t dir r = candidates t t.fully_specified m (inward r) (join dir r)
+candidates_of m t dir r = candidates t t.fully_specified m (asks_for_directory r) (join dir r)
 
 -- a relative request with neither `?` nor `#` that no label touches, nor any of its candidates, gives the first acceptable candidate byte for byte, with no query and no fragment, after one round; if none is acceptable, nothing is found
 abbrev pub FirstAcceptableCandidateIsHandedOut : Type 0

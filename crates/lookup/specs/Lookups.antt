@@ -13,7 +13,7 @@ use Rattle.tree.specs.Meanings.{Finding, Meaning, faulty, found, missing}
 use Rattle.settings.specs.Tables.{Tables}
 use Rattle.alias.specs.Attempts.{Attempt, attempts}
 use Rattle.alias.specs.Attempts as attempt
-use Rattle.candidates.specs.Candidates.{Candidate, broken_at, candidates, inward, is_directory, overlong, try}
+use Rattle.candidates.specs.Candidates.{Candidate, broken_at, candidates, asks_for_directory, is_directory, overlong, try}
 use Rattle.lookup.specs.Faults.{Fault, broken_lookup, broken_manifest, empty_request, ignored, long_text, not_found, passes_on, recursion, stays, unmatched}
 
 -- what goes with a lookup from round to round: the rounds run, whether a request is fully specified, query and fragment
@@ -102,7 +102,7 @@ module _ (m : Meaning) (allowed : Allowed) (t : Tables) (again : Text → Text �
   look r p c =
       cond t.context
       (cond (is_directory (m.kind (parts p))) (ends_in p c) (failed (not_found r) c))
-      (or_next (tests (candidates t c.fully m (inward r) p) c) (λ d. failed (not_found r) d))
+      (or_next (tests (candidates t c.fully m (asks_for_directory r) p) c) (λ d. failed (not_found r) d))
 
   -- a request that no label rewrites
   abbrev pub by_way : Branch → Text → Text → Context → Ended

@@ -12,7 +12,7 @@ use Rattle.tree.specs.Meanings.{Meaning}
 use Rattle.settings.specs.Tables.{Tables}
 use Rattle.alias.specs.Attempts.{Attempt, attempts}
 use Rattle.alias.specs.Attempts as attempt
-use Rattle.candidates.specs.Candidates.{Candidate, broken_at, candidates, inward, is_directory, overlong, try}
+use Rattle.candidates.specs.Candidates.{Candidate, broken_at, candidates, asks_for_directory, is_directory, overlong, try}
 use Rattle.lookup.specs.Faults.{Fault, broken_manifest, empty_request, ignored, long_text, not_found, passes_on, recursion, stays, unmatched}
 use Rattle.lookup.specs.Laws.{decisive}
 use Rattle.lookup.specs.Lookups.{Context, Ended, answered_by, counted, ends_in, failed, loosened, missed, taking, with_fragment}
@@ -115,10 +115,10 @@ module _ (m : Meaning) (allowed : Allowed) (t : Tables) (limit : ℕ) where
         → t.context ≡ true → is_directory (m.kind (parts p)) ≡ false → Ends (a_place r p) c (failed (not_found r) c)
     -- else a path or a fault that its candidates end in stands
     candidates_decide : {r p : Text} {c : Context} {e : Ended}
-        → t.context ≡ false → Ends (the_candidates (candidates t c.fully m (inward r) p)) c e → decisive e ≡ true → Ends (a_place r p) c e
+        → t.context ≡ false → Ends (the_candidates (candidates t c.fully m (asks_for_directory r) p)) c e → decisive e ≡ true → Ends (a_place r p) c e
     -- and where none of them passes, it is 22 with the request
     no_candidate_passes : {r p : Text} {c d : Context}
-        → t.context ≡ false → Ends (the_candidates (candidates t c.fully m (inward r) p)) c (missed d) → Ends (a_place r p) c (failed (not_found r) d)
+        → t.context ≡ false → Ends (the_candidates (candidates t c.fully m (asks_for_directory r) p)) c (missed d) → Ends (a_place r p) c (failed (not_found r) d)
     -- where no candidate is left, nothing is found
     no_candidate_is_left : {c : Context}
         → Ends (the_candidates []) c (missed c)

@@ -26,7 +26,7 @@ ghost use Rattle.lookup.specs.RuleLaws.{
 };
 
 /// How many rounds a lookup runs at most, with what holds of lookups of at most so many rounds.
-pub fn rounds_of_lawful_lookups() -> usize
+pub fn most_rounds() -> usize
     ensures is_the_limit { result ≡ rounds_at_most }
     ensures only_acceptable_paths_are_handed_out { OnlyAcceptablePathsAreHandedOut }
     ensures a_lookup_ends_in_a_path_or_a_fault { EndsInAPathOrAFault }

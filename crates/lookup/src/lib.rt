@@ -8,6 +8,6 @@ mod samples;
 
 pub use calls::OpenCall;
 pub use calls::answer::{MIN_AREA, MIN_ROWS, answer_call};
-pub use laws::rounds_of_lawful_lookups;
+pub use laws::most_rounds;
 pub use resolution::{Found, Refused, Resolution, ResolveError};
 pub use samples::worked_lookups_hold;

@@ -18,7 +18,7 @@ ghost use Rattle.lookup.specs.Turns.{EndsShort, Kept, Labelled, came_back, label
 
 use crate::calls::area::{first_unit, put};
 use crate::calls::{Answer, Asked, Fault, Move, OpenCall, ResolveContext, Stage};
-use candidates::{Walk, is_inward};
+use candidates::{Walk, asks_for_directory};
 use paths::joined;
 use settings::Settings;
 use specifier::Branch;
@@ -56,7 +56,7 @@ fn look<H: Host>(
         };
         return Move::Return(answer);
     }
-    let walk = Walk::new(is_inward(asked.text.of(work)));
+    let walk = Walk::new(asks_for_directory(asked.text.of(work)));
     Move::Stay(OpenCall {
         asked,
         stage: Stage::Candidates(path, context.fully_specified, walk),

@@ -8,5 +8,6 @@ use Rattle.candidates.proofs.places.named_candidate.Given as goal
 abbrev pub invariant-loop-i : goal.invariant-loop-i
 invariant-loop-i l = record {
   counts_from_here : item_at (indexed l.path (map bytes_of l.extensions) (drop l.i (map bytes_of l.names))) l.left ≡ item_at (indexed l.path (map bytes_of l.extensions) (map bytes_of l.names)) l.place;
+  nothing_written : l.out ≡ l.initial.out;
   not_beyond : l.place ≤ l.left + 8 * l.i;
 }

@@ -28,7 +28,7 @@ returns-then-not-all_untouched-clause-of_every_quiet_question_that_is_accepted g
     let r = c.args.question.request.now in
     let p = c.as_bytes-path.result.now in
     let is : p ≡ join d r = c.as_bytes-path.ensures.bytes_of_the_text ∙ sought_is d r (bytes_of c.in-Some.path) q.quiet.is_relative c.in-Some.ensures.sought_path_if_short in
-    let all = offered_of m _ allowed t d r p _ _ c.is_readable.ensures.same_meaning is c.is_inward.ensures.slash_at_the_end_or_a_dot c.in_ok-offers.ensures.every_candidate_with_its_verdict in
+    let all = offered_of m _ allowed t d r p _ _ c.is_readable.ensures.same_meaning is c.asks_for_directory.ensures.slash_at_the_end_or_a_dot c.in_ok-offers.ensures.every_candidate_with_its_verdict in
     c.if-not-all_untouched.ensures.each_is_untouched p
     ∙ (λ i. list_all (is_untouched (c.aliases.ensures.labels_in_the_order_written i)) (map (shown p) (c.deref.ensures.value i)))
     ∙ ap (list_all (is_untouched t.aliases)) all
@@ -45,7 +45,7 @@ returns-clause-only_of_a_quiet_question g c some =
     let p = c.as_bytes-path.result.now in
     let itself = quiet_by_itself t r (sym c.if-not-may_be_quiet.ensures.out_of_context_relative_unmarked_and_untouched) in
     let is : p ≡ join d r = c.as_bytes-path.ensures.bytes_of_the_text ∙ sought_is d r (bytes_of c.in-Some.path) itself.1.1.0 c.in-Some.ensures.sought_path_if_short in
-    let all = offered_of m _ allowed t d r p _ _ c.is_readable.ensures.same_meaning is c.is_inward.ensures.slash_at_the_end_or_a_dot c.in_ok-offers.ensures.every_candidate_with_its_verdict in
+    let all = offered_of m _ allowed t d r p _ _ c.is_readable.ensures.same_meaning is c.asks_for_directory.ensures.slash_at_the_end_or_a_dot c.in_ok-offers.ensures.every_candidate_with_its_verdict in
     let untouched : true ≡ all_untouched t.aliases (candidates_of m t d r) =
     c.if-not-all_untouched.ensures.each_is_untouched p
     ∙ (λ i. list_all (is_untouched (c.aliases.ensures.labels_in_the_order_written i)) (map (shown p) (c.deref.ensures.value i)))

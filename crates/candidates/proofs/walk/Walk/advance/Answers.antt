@@ -8,6 +8,7 @@ pub loop-host-init : goal.loop-host-init
 loop-host-init g c = record {
   sound = c.requires.sound;
   same_meaning = refl;
+  nothing_written = refl;
   as_much_left = refl;
   asked_only_at_the_directory = standing g.H.FileTree.steps (g.H.FileTree.meaning c.args.host.now) c.args.sought.now.path.now c.args.self.now.stage c.args.host.now;
 }
@@ -24,6 +25,7 @@ loop-host-preserved g c =
     record {
       sound = c.step-candidate.ensures.still_sound;
       same_meaning = c.step-candidate.ensures.same_meaning ∙ c.loop-host.invariant.same_meaning;
+      nothing_written = search rules;
       as_much_left = search rules;
       asked_only_at_the_directory =
           onward g.H.FileTree.steps (g.H.FileTree.meaning c.args.host.now) path c.loop-host.invariant.asked_only_at_the_directory

@@ -5,7 +5,7 @@ use Rattle.texts.specs.Texts.{Text}
 use Rattle.tree.specs.Meanings.{kind_of}
 use Rattle.alias.specs.Answers.{AskedIf}
 use Rattle.settings.specs.Meant.{tables}
-use Rattle.candidates.specs.Candidates.{candidates, inward, is_directory}
+use Rattle.candidates.specs.Candidates.{candidates, asks_for_directory, is_directory}
 use Rattle.candidates.specs.Left.{left}
 use Rattle.lookup.specs.Areas.{OnlyIn}
 use Rattle.lookup.specs.Calls.{resumed, trying}
@@ -74,8 +74,8 @@ returns-clause-looks_for_the_path g c =
     let same : context_of u c.args.context ≡ context_of w c.args.context = context_stays c.args.asked.round 3 w u c.args.context (omega arith) (omega arith) only c.requires.labelled.query c.requires.labelled.fragment in
     let path : text_at u c.put-path.result ≡ bytes_of c.args.path.now = c.put-path.ensures.text_in_its_place ∙ c.as_bytes.ensures.bytes_of_the_text in
     let text : text_at u c.args.asked.text ≡ text_at w c.args.asked.text = text_in_front_stays (first_unit c.args.asked.round + 3) w u c.args.asked.text only c.requires.labelled.text in
-    let inside : c.is_inward.result ≡ inward (text_at w c.args.asked.text) = c.is_inward.ensures.slash_at_the_end_or_a_dot ∙ ap inward (c.of-2.ensures.part_of_the_text ∙ text) in
-    let all : left t fully (text_at u c.put-path.result) m c.new-walk.result ≡ candidates t fully m (inward (text_at w c.args.asked.text)) (bytes_of c.args.path.now) =
+    let inside : c.asks_for_directory.result ≡ asks_for_directory (text_at w c.args.asked.text) = c.asks_for_directory.ensures.slash_at_the_end_or_a_dot ∙ ap asks_for_directory (c.of-2.ensures.part_of_the_text ∙ text) in
+    let all : left t fully (text_at u c.put-path.result) m c.new-walk.result ≡ candidates t fully m (asks_for_directory (text_at w c.args.asked.text)) (bytes_of c.args.path.now) =
     c.new-walk.ensures.every_candidate_is_left t fully (text_at u c.put-path.result) m ∙ (λ k. candidates t fully m (inside k) (path k)) in
     λ allowed limit.
     looks_at_candidates m allowed t limit (text_at w c.args.asked.text) (bytes_of c.args.path.now) (context_of w c.args.context) (sym c.if-resolve_to_context.ensures.flag_as_set)
@@ -88,9 +88,9 @@ returns-clause-fewer_moves g c =
     let u = c.put-path.new.work in
     let fully = c.args.context.fully_specified in
     let p = text_at u c.put-path.result in
-    let all : length (left t fully p m c.new-walk.result) ≡ length (candidates t fully m c.is_inward.result p) = ap length (c.new-walk.ensures.every_candidate_is_left t fully p m) in
-    let few : length (candidates t fully m c.is_inward.result p) ≤ candidates_most t =
-    candidates_few t fully m c.is_inward.result p ((g.met.H.FileTree.proper c.args.host.now c.requires.sound).few_mains (parts p)) in
+    let all : length (left t fully p m c.new-walk.result) ≡ length (candidates t fully m c.asks_for_directory.result p) = ap length (c.new-walk.ensures.every_candidate_is_left t fully p m) in
+    let few : length (candidates t fully m c.asks_for_directory.result p) ≤ candidates_most t =
+    candidates_few t fully m c.asks_for_directory.result p ((g.met.H.FileTree.proper c.args.host.now c.requires.sound).few_mains (parts p)) in
     let product : test_moves t * length (left t fully p m c.new-walk.result) ≤ test_moves t * candidates_most t = mul-le-mul_left (test_moves t) (omega (arith, all, few)) in
     omega (arith, product)
 

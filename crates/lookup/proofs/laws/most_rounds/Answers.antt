@@ -25,7 +25,7 @@ use Rattle.lookup.proofs.Holding.{few, fine}
 use Rattle.lookup.proofs.Nesting.{nesting_alike}
 use Rattle.lookup.proofs.Obeying.{answer_by_rules, lookup_by_rules, obeys, one_answer, that_end_alone}
 use Rattle.lookup.proofs.Quiet.{Again, One, all_path, empty_is_refused, goes_its_way}
-use Rattle.lookup.proofs.laws.rounds_of_lawful_lookups.Goals as goal
+use Rattle.lookup.proofs.laws.most_rounds.Goals as goal
 
 -- a label that does not touch a bare request for a package
 module _ (m : Meaning) (allowed : Allowed) (t : Tables) (dir r : Text) (bare : AllPath r) (outside : branch r ≡ way.Package) where
