@@ -42,7 +42,7 @@ impl<A: FileTree, B: FileTree> Mount<A, B> {
         requires first_is_sound { A.FileTree.sound first }
         requires second_is_sound { B.FileTree.sound second }
         ensures mounted_at_a_clean_short_path { is_ok result ≡ mountable at.now }
-        ensures means_both_or_hands_back { MatchResult result (λ m. (m.first ≡ first) × (m.second ≡ second) × (bytes_of m.at ≡ at.now)) (λ back. (back.0 ≡ first) × (back.1 ≡ second)) }
+        ensures mounted_or_both_handed_back { MatchResult result (λ m. (m.first ≡ first) × (m.second ≡ second) × (bytes_of m.at ≡ at.now)) (λ back. (back.0 ≡ first) × (back.1 ≡ second)) }
     {
         if !is_mountable(at) {
             return Err((first, second));

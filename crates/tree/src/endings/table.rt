@@ -27,7 +27,7 @@ impl Endings {
 
     /// One ending more; a fifth or one of more than 16 bytes is refused, and nothing changes.
     pub fn add(&mut self, ending: &[u8]) -> Result<(), EndingRefusal>
-        ensures four_short_endings { result ≡ taken_unless (ending_refusal (endings_of self.old) ending.now) }
+        ensures taken_if_short_and_one_of_four { result ≡ taken_unless (ending_refusal (endings_of self.old) ending.now) }
         ensures added_behind_the_others { endings_of self.new ≡ (if is_ok result then endings_of self.old ++ ending.now ∷ [] else endings_of self.old) }
     {
         let text = Text::new(ending).ok_or(EndingRefusal::TooLong)?;

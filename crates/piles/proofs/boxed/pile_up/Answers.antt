@@ -6,7 +6,7 @@ use Rattle.piles.proofs.boxed.pile_up.Goals as goal
 
 pub returns-in-Ok : goal.returns-in-Ok
 returns-in-Ok g c =
-    let both = c.in-Ok.ensures.means_both_or_hands_back in
+    let both = c.in-Ok.ensures.mounted_or_both_handed_back in
     record {
       mounted_at_a_clean_short_path = search rules;
       means_what_the_pile_means = (λ i. mounted (bytes_of (c.new-in-Ok.ensures.below_as_given i).at) (g.A.FileTree.meaning (c.new-in-Ok.ensures.below_as_given i).first.below) (g.B.FileTree.meaning (c.new-in-Ok.ensures.below_as_given i).second))
@@ -23,7 +23,7 @@ returns-in-Ok g c =
 
 pub returns-in-Err : goal.returns-in-Err
 returns-in-Err g c =
-    let back = c.in-Err.ensures.means_both_or_hands_back in
+    let back = c.in-Err.ensures.mounted_or_both_handed_back in
     record {
       mounted_at_a_clean_short_path = search rules;
       means_what_the_pile_means = (c.into_below.ensures.gives_the_host_below ∙ (λ i. (back.0 i).below) ∙ c.new.ensures.below_as_given, back.1);
