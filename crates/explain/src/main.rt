@@ -160,6 +160,7 @@ fn resolver_of(
 ) -> anyhow::Result<Resolver<Cache<Listing>, PartCount>>
     ensures listing_of_the_front { IfOk result (λ r. rows r.host.below ≡ (filled_by [] unset sheet.now).rows) }
     ensures settings_of_the_front { IfOk result (λ r. tables r.settings ≡ (filled_by [] unset sheet.now).tables) }
+    ensures policy_of_255_parts { IfOk result (λ r. r.policy.max ≡ 255) }
     ensures no_path_yet { IfOk result (λ r. r.handed_out ≡ 0) }
     ensures sound { IfOk result (λ r. Agrees (listed (rows r.host.below)).kind (held r.host.recent)) }
 {
