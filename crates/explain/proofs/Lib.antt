@@ -4,3 +4,4 @@ pub mod EndSteps
 pub mod FillingSteps
 pub mod QuietSteps
 pub mod Writing
+pub mod TellingSteps

@@ -13,3 +13,4 @@ pub mod Refusals
 pub mod SheetLines
 pub mod Told
 pub mod Trials
+pub mod Telling
