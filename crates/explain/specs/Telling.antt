@@ -1,8 +1,7 @@
--- All that is told of a question, as one text. Assumes nothing.
+-- All that is told of a sheet, as one text. Assumes nothing.
 use Rattle.std.specs.Prelude.{◌≡◌, ℕ, ◌+◌, min, Bool, true, false, cond, List, [], ◌∷◌, ◌++◌, IfSome, take, drop, length, map, nat_le, is_some, Some, None, Option, Ok, Err, Result, codes}
 use Rattle.std.specs.List.{flat_map}
-use Rattle.lines.specs.Sheets.{LINE_END}
-use Rattle.lines.specs.Sheets.{behind_line, line_of}
+use Rattle.lines.specs.Sheets.{LINE_END, behind_line, line_of}
 use Rattle.texts.specs.Parts.{parts}
 use Rattle.texts.specs.Texts.{Text, empty}
 use Rattle.specifier.specs.Accepted.{askable, startable}
@@ -104,6 +103,7 @@ abbrev pub paths_of : End → ℕ
 paths_of (in_path p q f n) = 1
 paths_of (in_refusal k a b n) = 0
 
+-- a host, a policy and settings that questions are explained by, and those of the resolver that looks them up
 module _ (m n : Meaning) (allowed policy : Allowed) (t u : Tables) where
   -- where a lookup of the resolver ends
   abbrev pub end_at : Asked → End

@@ -1,4 +1,4 @@
-// All that is told of a question, as one text.
+// All that is told of the lines behind the front of a sheet, each with what its lookup ends in.
 ghost use Rattle.std.specs.Prelude.{◌≡◌, [], ◌∷◌, ◌++◌, IfOk, string_bytes};
 ghost use Rattle.std.specs.Option.{option_map};
 ghost use Rattle.texts.specs.Held.{bytes_of};
