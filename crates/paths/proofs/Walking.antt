@@ -1,6 +1,6 @@
 -- One part after another joined to a text of at most 255 bytes. Assumes nothing.
-use Rattle.std.proofs.Common.{◌≡◌, ℕ, ◌<◌, ◌≤◌, max, Bool, cond, leb, List, [], ◌∷◌, length, Some, None, sym, ap, ◌∙◌, arith}
-use Rattle.std.proofs.lemmas.Bool.{cond-false, cond-true, le-leb, lt-leb}
+use Rattle.std.proofs.Common.{◌≡◌, ℕ, ◌+◌, ◌<◌, ◌≤◌, max, Bool, false, cond, leb, List, [], ◌∷◌, ◌++◌, length, Some, None, sym, ap, ◌∙◌, arith}
+use Rattle.std.proofs.lemmas.Bool.{cond-false, cond-true, le-leb, leb-false, lt-leb}
 use Rattle.std.proofs.lemmas.Bool.Decides.{nat_tests}
 use Rattle.texts.specs.Texts.{Text}
 use Rattle.texts.specs.Parts.{Mark, texts_of}
@@ -43,3 +43,13 @@ module _ (a : Text) (ms : List Mark) (p : Text) (short : length a ≤ 255) (firs
 
   pub walk_stops : 255 < length (grown a p) → None ≡ walked_within a (texts_of ms)
   walk_stops long = sym (ap (walked_within a) (marks_step ms p first) ∙ step_fails a p (texts_of (but_first ms)) short long)
+
+-- a text put behind another that has no byte
+abbrev pub pushed : Text → Text → Text
+pushed t s = t ++ s
+
+room_is : (t s : Text) → t ≡ [] → leb (length t + length s) 255 ≡ leb (length s) 255
+room_is t s e = let same : length t + length s ≡ length s = omega (arith, ap length e) in ap (λ (n : ℕ). leb n 255) same
+
+pub refused_is : (t s : Text) → t ≡ [] → false ≡ leb (length t + length s) 255 → 255 < length s
+refused_is t s e room = leb-false (length s) 255 (sym (room ∙ room_is t s e))

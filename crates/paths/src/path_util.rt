@@ -1,10 +1,10 @@
 // Joining one text to another, and normalizing.
-ghost use Rattle.std.specs.Prelude.{◌≡◌, ◌<◌, ◌≤◌, ◌++◌, length, MatchResult};
+ghost use Rattle.std.specs.Prelude.{◌≡◌, ◌<◌, ◌≤◌, true, [], ◌++◌, length, if◌then◌else◌, Some, None, MatchResult};
 ghost use Rattle.std.specs.Option.{option_map};
 ghost use Rattle.std.specs.Result.{result_ok};
 ghost use Rattle.stack.specs.Items.{items};
 ghost use Rattle.texts.specs.Held.{bytes_of};
-ghost use Rattle.texts.specs.Texts.{SLASH, begins, length_in, buffer_with};
+ghost use Rattle.texts.specs.Texts.{SLASH, begins, fits, length_in, buffer_with};
 ghost use Rattle.texts.specs.Parts.{marks, places, texts_of};
 ghost use Rattle.paths.specs.Laws.{CleanStaysClean, DirectoryStaysInFront, ShortTextsJoin};
 ghost use Rattle.texts.specs.Walks.{left, subject};
@@ -110,16 +110,15 @@ fn push_component(text: &mut Text<MAX_LEN>, part: &[u8]) -> Result<(), Full>
     }
 }
 
-// The parts of `source` that are left, joined to `start` one by one; none where a text on the way is too long.
-fn walked_from(start: &[u8], source: &[u8], rest: Components) -> Result<Text<MAX_LEN>, Full>
+// Joins the parts of `source` that are left to `text` one by one, if there is room for each text on the way.
+fn push_components(text: &mut Text<MAX_LEN>, source: &[u8], rest: Components) -> Result<(), Full>
     requires of_the_source { subject rest ≡ source.now }
-    ensures parts_joined_one_by_one { option_map bytes_of (result_ok result) ≡ walked_within start.now (texts_of (left rest.entry)) }
+    ensures parts_joined_one_by_one { option_map (λ _. bytes_of text.new) (result_ok result) ≡ walked_within (bytes_of text.old) (texts_of (left rest.entry)) }
 {
-    let mut text = Text::new(start).ok_or(Full)?;
     for place in rest {
-        push_component(&mut text, place.of(source))?;
+        push_component(text, place.of(source))?;
     }
-    Ok(text)
+    Ok(())
 }
 
 // Whether a text is added to what it is joined to, and does not take its place.
@@ -129,6 +128,17 @@ fn is_relative(text: &[u8]) -> bool
     !text.is_empty() && !begins_with_slash(text)
 }
 
+// Lent and filled, not given back: a text of this size would be copied at each step on its way up.
+// `more`, a relative text, joined to `base`, in a text without a byte.
+fn join_into(base: &[u8], more: &[u8], text: &mut Text<MAX_LEN>) -> Result<(), Full>
+    requires no_bytes { bytes_of text.old ≡ [] }
+    requires relative { relative more.now ≡ true }
+    ensures joined_text { option_map (λ _. bytes_of text.new) (result_ok result) ≡ joined_of base.now more.now }
+{
+    text.push_text(base)?;
+    push_components(text, more, Components::new(more))
+}
+
 /// `more` joined to `base`. None where a text on the way has more than 255 bytes.
 pub fn joined(base: &[u8], more: &[u8]) -> Option<Text<MAX_LEN>>
     ensures joined_text { option_map bytes_of result ≡ joined_of base.now more.now }
@@ -136,7 +146,21 @@ pub fn joined(base: &[u8], more: &[u8]) -> Option<Text<MAX_LEN>>
     if !is_relative(more) {
         return Text::new(more);
     }
-    walked_from(base, more, Components::new(more)).ok()
+    let mut text = Text::empty();
+    join_into(base, more, &mut text).ok()?;
+    Some(text)
+}
+
+// Copies a text of at most 255 bytes to the front of `out`; one that is longer or does not fit is refused, and `out` stays as it was.
+fn copy_short(text: &[u8], out: &mut [u8]) -> Option<usize>
+    ensures length_if_it_fits { result ≡ length_in (if fits text.now then Some text.now else None) (length out.old) }
+    ensures text_in_front_if_it_fits { out.new ≡ buffer_with (if fits text.now then Some text.now else None) out.old }
+{
+    if text.len() <= MAX_LEN {
+        copy_text(text, out)
+    } else {
+        None
+    }
 }
 
 // The caller lends the buffer, by a rule of the project, so its length comes back beside it; so in `normalize`.
@@ -148,24 +172,39 @@ pub fn normalize_with(base: &[u8], more: &[u8], out: &mut [u8]) -> Option<usize>
     ensures directory_stays_in_front { DirectoryStaysInFront base.now more.now }
     ensures short_texts_always_join { ShortTextsJoin base.now more.now }
 {
-    let text = joined(base, more)?;
-    copy_text(text.as_bytes(), out)
+    if !is_relative(more) {
+        return copy_short(more, out);
+    }
+    let mut work = Text::empty();
+    join_into(base, more, &mut work).ok()?;
+    copy_text(work.as_bytes(), out)
+}
+
+// `text` normalized, in a text without a byte.
+fn normalize_into(text: &[u8], normal: &mut Text<MAX_LEN>) -> Result<(), Full>
+    requires no_bytes { bytes_of normal.old ≡ [] }
+    ensures normal_text { option_map (λ _. bytes_of normal.new) (result_ok result) ≡ normalized_of text.now }
+{
+    if text.len() > MAX_LEN {
+        return Err(Full);
+    }
+    let mut parts = Components::new(text);
+    if begins_with_slash(text) {
+        let _ = parts.next();
+        normal.push_text(b"/")?;
+        push_components(normal, text, parts)
+    } else {
+        push_components(normal, text, parts)
+    }
 }
 
 /// `text` normalized. None where it has more than 255 bytes.
 pub fn normalized(text: &[u8]) -> Option<Text<MAX_LEN>>
     ensures normal_text { option_map bytes_of result ≡ normalized_of text.now }
 {
-    if text.len() > MAX_LEN {
-        return None;
-    }
-    let mut parts = Components::new(text);
-    if begins_with_slash(text) {
-        let _ = parts.next();
-        walked_from(b"/", text, parts).ok()
-    } else {
-        walked_from(b"", text, parts).ok()
-    }
+    let mut normal = Text::empty();
+    normalize_into(text, &mut normal).ok()?;
+    Some(normal)
 }
 
 /// `text` normalized, at the front of `out`. None where `text` has more than 255 bytes or does not fit `out`; then `out` stays as it was.
@@ -176,6 +215,7 @@ pub fn normalize(text: &[u8], out: &mut [u8]) -> Option<usize>
     ensures twice_is_once { normalize_of (normalize_of text.now) ≡ normalize_of text.now }
     ensures never_longer { length (normalize_of text.now) ≤ length text.now }
 {
-    let normal = normalized(text)?;
-    copy_text(normal.as_bytes(), out)
+    let mut work = Text::empty();
+    normalize_into(text, &mut work).ok()?;
+    copy_text(work.as_bytes(), out)
 }

@@ -1,10 +1,11 @@
 -- What a loop over the bytes of a text keeps. Assumes nothing.
-use Rattle.std.proofs.Common.{◌≡◌, ℕ, zero, suc, ◌+◌, ◌-◌, ◌<◌, ◌≤◌, min, Bool, true, false, cond, ◌&&◌, eqb, ltb, List, [], ◌∷◌, ◌++◌, length, get_or, take, drop, Some, None, Option, sym, refl, ap, ◌∙◌, arith, rules}
+use Rattle.std.proofs.Common.{◌≡◌, ℕ, zero, suc, ◌+◌, ◌-◌, ◌<◌, ◌≤◌, min, Bool, true, false, cond, not, ◌&&◌, eqb, ltb, List, [], ◌∷◌, ◌++◌, length, get_or, take, drop, is_some, Some, None, Option, sym, refl, ap, ◌∙◌, arith, rules}
 use Rattle.std.proofs.lemmas.List.{places, same_lists, take_more}
-use Rattle.std.proofs.lemmas.Bool.{and_left, cond-false, ne_eqb, le-ltb, lt-ltb, ltb-false}
+use Rattle.std.proofs.lemmas.Bool.{and_left, cond-false, ne_eqb, le-ltb, lt-ltb, ltb-false, not-false, not-true}
 use Rattle.std.proofs.lemmas.Bool.Decides.{nat_tests}
 use Rattle.std.proofs.lemmas.List.Recursion.{is_position_or_len}
-use Rattle.std.specs.List.{position_or_len}
+use Rattle.std.proofs.lemmas.Iterator.Adapters.{position_from-zero}
+use Rattle.std.specs.List.{list_all, position_from, position_or_len}
 use Rattle.std.specs.Option.{unwrap_or}
 use Rattle.texts.specs.Texts.{Text, SLASH, empty, ends, has, unslashed, until}
 
@@ -15,6 +16,23 @@ found_or_all n len r low is = ap (λ (o : Option ℕ). unwrap_or o len) is ∙ a
     at : (v : Bool) → ltb n len ≡ v → unwrap_or (cond v (Some n) None) len ≡ n
     at true e = refl
     at false e = omega (arith, ltb-false n len e)
+
+-- every byte passes, if none is found that fails
+same_not : (v w : Bool) → not v ≡ not w → v ≡ w
+same_not v true e = not-false v e
+same_not v false e = not-true v e
+
+module _ (fails passes : ℕ → Bool) (apart : (b : ℕ) → fails b ≡ not (passes b)) where
+  some_from : (n : ℕ) (t : Text) → is_some (position_from fails n t) ≡ not (list_all passes t)
+  some_from n [] = refl
+  some_from n (b ∷ t) = at (passes b) (apart b) (some_from (n + 1) t)
+    where
+      at : (v : Bool) → fails b ≡ not v → is_some (position_from fails (n + 1) t) ≡ not (list_all passes t) → is_some (cond (fails b) (Some n) (position_from fails (n + 1) t)) ≡ not (v && list_all passes t)
+      at true e ih = ap (λ (w : Bool). is_some (cond w (Some n) (position_from fails (n + 1) t))) e ∙ ih
+      at false e ih = ap (λ (w : Bool). is_some (cond w (Some n) (position_from fails (n + 1) t))) e
+
+  pub none_found : (t : Text) (r : Option ℕ) (none : Bool) → r ≡ cond (ltb (position_or_len fails t) (length t)) (Some (position_or_len fails t)) None → is_some r ≡ not none → none ≡ list_all passes t
+  none_found t r none is e = same_not none (list_all passes t) (sym e ∙ ap is_some (is ∙ position_from-zero fails t) ∙ some_from 0 t)
 
 until_step : (b c : ℕ) (t : Text) → until b (c ∷ t) ≡ cond (eqb c b) 0 (1 + until b t)
 until_step b c t = ap (λ (n : ℕ). cond (eqb c b) 0 n) (omega arith)

@@ -1,8 +1,7 @@
-use Rattle.std.proofs.Common.{◌≡◌, ◌<◌, List, length, MatchOption, Some, None, Option, subst, sym, ap, ◌∙◌, arith, rules}
+use Rattle.std.proofs.Common.{◌≡◌, List, length, Some, None, refl, sym, ap, ◌∙◌, arith, rules}
 use Rattle.std.specs.Option.{option_map}
 use Rattle.std.specs.Result.{result_ok}
 use Rattle.texts.specs.Held.{bytes_of}
-use Rattle.texts.specs.declared.text.Text.{Text as Held}
 use Rattle.texts.specs.Texts.{Text}
 use Rattle.texts.specs.Parts.{Mark, text_at, texts_of}
 use Rattle.texts.specs.declared.components.Components.{Components}
@@ -10,21 +9,11 @@ use Rattle.texts.specs.Walks.{first_text, left, subject}
 use Rattle.paths.specs.Joins.{walked_within}
 use Rattle.texts.proofs.Buffers.{text_within}
 use Rattle.texts.proofs.PartLoops.{none_left}
-use Rattle.paths.proofs.Walking.{walk_done, walk_on, walk_stops, walk_too_long}
-use Rattle.paths.proofs.path_util.walked_from.Goals as goal
-
-pub returns-in_err-text : goal.returns-in_err-text
-returns-in_err-text c =
-    let none : result_ok c.from_residual.result ≡ None = search rules in record {
-      parts_joined_one_by_one =
-          ap (option_map bytes_of) none ∙ sym (walk_too_long c.args.start.now (texts_of (left c.args.rest)) (subst (λ (t : Option (Held 255)). MatchOption t (255 < length c.args.start.now) (λ u. bytes_of u ≡ c.args.start.now)) c.in_err-text.ensures.ok_part c.new.ensures.same_bytes_or_too_many));
-    }
+use Rattle.paths.proofs.Walking.{walk_done, walk_on, walk_stops}
+use Rattle.paths.proofs.path_util.push_components.Goals as goal
 
 pub loop-place-init : goal.loop-place-init
-loop-place-init c = (
-  ap subject c.into_iter-place-iterator.ensures.into_iter_gives ∙ c.requires.of_the_source,
-  ap (λ (t : Text). walked_within t (texts_of (left c.into_iter-place-iterator.result))) (subst (λ (t : Option (Held 255)). MatchOption t (255 < length c.args.start.now) (λ u. bytes_of u ≡ c.args.start.now)) c.in_ok-text.ensures.ok_part c.new.ensures.same_bytes_or_too_many),
-)
+loop-place-init c = (ap subject c.into_iter-place-iterator.ensures.into_iter_gives ∙ c.requires.of_the_source, refl)
 
 pub loop-place-preserved : goal.loop-place-preserved
 loop-place-preserved c =
@@ -46,15 +35,15 @@ returns-in_err-push_component c =
     let rest = c.loop-place.place-iterator in
     let text = c.loop-place.text in
     let i = c.loop-place.invariant in
-    let none : result_ok c.from_residual-in_err-push_component.result ≡ None = search rules in
+    let none : result_ok c.from_residual.result ≡ None = search rules in
     let first : Some c.of.result.now ≡ first_text (left rest) =
     ap Some (c.of.ensures.part_of_the_text ∙ ap (λ (t : Text). text_at t c.in-Some.place) (sym i.0)) ∙ c.in-Some.ensures.steps.part_stands_there in
     record {
       parts_joined_one_by_one =
-          ap (option_map bytes_of) none
+          ap (option_map (λ _. bytes_of c.push_component.new.text)) none
           ∙ walk_stops (bytes_of text) (left rest) c.of.result.now (text_within text) first c.in_err-push_component.ensures.joined_or_too_long
           ∙ i.1
-          ∙ ap (λ (it : Components). walked_within c.args.start.now (texts_of (left it))) c.into_iter-place-iterator.ensures.into_iter_gives;
+          ∙ ap (λ (it : Components). walked_within (bytes_of c.args.text.now) (texts_of (left it))) c.into_iter-place-iterator.ensures.into_iter_gives;
     }
 
 pub returns : goal.returns
@@ -63,5 +52,5 @@ returns c = record {
       sym (walk_done (bytes_of c.loop-place.text) (text_within c.loop-place.text))
       ∙ ap (λ (ms : List Mark). walked_within (bytes_of c.loop-place.text) (texts_of ms)) (sym (none_left (left c.loop-place.place-iterator) c.in-None.ensures.steps.place_of_the_next_part))
       ∙ c.loop-place.invariant.1
-      ∙ ap (λ (it : Components). walked_within c.args.start.now (texts_of (left it))) c.into_iter-place-iterator.ensures.into_iter_gives;
+      ∙ ap (λ (it : Components). walked_within (bytes_of c.args.text.now) (texts_of (left it))) c.into_iter-place-iterator.ensures.into_iter_gives;
 }
