@@ -1,15 +1,37 @@
 // The first line that fits a question decides.
-ghost use Rattle.std.specs.Prelude.{◌≡◌, ◌+◌, ◌<◌, ◌≤◌, [], ◌∷◌, length, drop, MatchOption};
+ghost use Rattle.std.specs.Prelude.{◌≡◌, ◌+◌, ◌<◌, ◌≤◌, [], ◌∷◌, length, drop, MatchOption, IfSome};
 ghost use Rattle.std.specs.Option.{option_map};
 ghost use Rattle.stack.specs.Items.{item_at};
 ghost use Rattle.listing.specs.Entries.{rows};
 ghost use Rattle.listing.specs.Meanings.{DecidesAt, asked, deciding, mains_behind, place};
 ghost use Rattle.listing.specs.Rows.{row};
+ghost use Rattle.texts.specs.Hashes.{path_hash};
 
 use crate::kinds::Topic;
 use crate::line::Line;
 use crate::listing::Listing;
 use texts::path_hash;
+
+// A hash of what is asked pays where there is a line for every so many of its bytes: it is made from each of them, and a comparison without it stops early.
+const BYTES_A_LINE: usize = 4;
+
+// The hash of what is asked where it pays, and some line has a path to compare.
+fn hash_for(lines: &[Line], topic: Topic, text: &[u8]) -> Option<u8>
+    ensures hash_of_the_path_if_there_is_one { IfSome result (λ h. h ≡ path_hash text.now) }
+{
+    if text.len() / BYTES_A_LINE >= lines.len() {
+        return None;
+    }
+    let compared = match topic {
+        Topic::Kind => lines.iter().any(|line| line.lists_kind()),
+        Topic::Manifest => lines.iter().any(|line| line.lists_manifest()),
+        Topic::Lookup(_) => false,
+    };
+    if !compared {
+        return None;
+    }
+    Some(path_hash(text))
+}
 
 impl Listing {
     pub(crate) fn line(&self, i: usize) -> &Line
@@ -24,8 +46,8 @@ impl Listing {
         ensures place_of_the_first_that_fits { result ≡ place (asked topic text.now) (rows self.now) }
         ensures rows_from_there_decide { MatchOption result (deciding (asked topic text.now) (rows self.now) ≡ []) (DecidesAt (asked topic text.now) (rows self.now)) }
     {
-        let hash = path_hash(text);
         let lines = self.lines.as_slice();
+        let hash = hash_for(lines, topic, text);
         lines.iter().position(|line| line.fits(topic, text, hash))
     }
 
