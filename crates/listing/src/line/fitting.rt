@@ -1,5 +1,5 @@
 // What a line says.
-ghost use Rattle.std.specs.Prelude.{◌≡◌, ◌≤◌, [], length, IfSome};
+ghost use Rattle.std.specs.Prelude.{◌≡◌, ◌≤◌, [], false, length, ◌==◌};
 ghost use Rattle.texts.specs.Hashes.{path_hash};
 ghost use Rattle.texts.specs.Parts.{parts, same_parts};
 ghost use Rattle.listing.specs.Rows.{is_main, is_manifest, kind_listed, row, row_of};
@@ -36,21 +36,21 @@ impl Line {
         }
     }
 
-    // Whether the line has the path `text`, which has this hash if one was made.
-    fn has_path(&self, text: &[u8], hash: Option<u8>) -> bool
-        requires hash_of_the_path_if_there_is_one { IfSome hash (λ h. h ≡ path_hash text.now) }
+    // Whether the line has the path `text`, which has this hash; with 0 none was made.
+    fn has_path(&self, text: &[u8], hash: u8) -> bool
+        requires hash_of_the_path_if_there_is_one { (hash == 0) ≡ false → hash ≡ path_hash text.now }
         ensures same_path_part_for_part { result ≡ same_parts (parts (row self.now).first) (parts text.now) }
     {
         let first = self.first.as_bytes();
-        match hash {
-            Some(hash) => same_hashed_path(first, self.hash, text, hash),
-            None => same_path(first, text),
+        if hash == 0 {
+            return same_path(first, text);
         }
+        same_hashed_path(first, self.hash, text, hash)
     }
 
-    // Whether the line decides what is asked about `text`, which has this hash as a path if one was made.
-    pub(crate) fn fits(&self, topic: Topic, text: &[u8], hash: Option<u8>) -> bool
-        requires hash_of_the_path_if_there_is_one { IfSome hash (λ h. h ≡ path_hash text.now) }
+    // Whether the line decides what is asked about `text`, which has this hash as a path; with 0 none was made.
+    pub(crate) fn fits(&self, topic: Topic, text: &[u8], hash: u8) -> bool
+        requires hash_of_the_path_if_there_is_one { (hash == 0) ≡ false → hash ≡ path_hash text.now }
         ensures fits_what_is_asked { result ≡ fits (asked topic text.now) (row self.now) }
     {
         match topic {
@@ -61,7 +61,7 @@ impl Line {
     }
 
     // Whether the line lists a file or a directory.
-    pub(crate) fn lists_kind(&self) -> bool
+    fn lists_kind(&self) -> bool
         ensures file_or_directory { result ≡ lists_kind self.now.kind }
     {
         matches!(self.kind, LineKind::File | LineKind::Directory)

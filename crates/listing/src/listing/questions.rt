@@ -1,5 +1,5 @@
 // The first line that fits a question decides.
-ghost use Rattle.std.specs.Prelude.{◌≡◌, ◌+◌, ◌<◌, ◌≤◌, [], ◌∷◌, length, drop, MatchOption, IfSome};
+ghost use Rattle.std.specs.Prelude.{◌≡◌, ◌+◌, ◌<◌, ◌≤◌, [], ◌∷◌, false, length, drop, ◌==◌, MatchOption};
 ghost use Rattle.std.specs.Option.{option_map};
 ghost use Rattle.stack.specs.Items.{item_at};
 ghost use Rattle.listing.specs.Entries.{rows};
@@ -12,25 +12,22 @@ use crate::line::Line;
 use crate::listing::Listing;
 use texts::path_hash;
 
-// A hash of what is asked pays where there is a line for every so many of its bytes: it is made from each of them, and a comparison without it stops early.
-const BYTES_A_LINE: usize = 4;
+// A hash of what is asked pays where one line is compared for every so many of its bytes: it is made from each of them, and a comparison without it stops early.
+const BYTES_A_LINE: usize = 8;
 
-// The hash of what is asked where it pays, and some line has a path to compare.
-fn hash_for(lines: &[Line], topic: Topic, text: &[u8]) -> Option<u8>
-    ensures hash_of_the_path_if_there_is_one { IfSome result (λ h. h ≡ path_hash text.now) }
+// The hash of what is asked where it pays, and else 0.
+fn hash_for(lines: &[Line], topic: Topic, text: &[u8]) -> u8
+    ensures hash_of_the_path_if_there_is_one { (result == 0) ≡ false → result ≡ path_hash text.now }
 {
-    if text.len() / BYTES_A_LINE >= lines.len() {
-        return None;
-    }
     let compared = match topic {
-        Topic::Kind => lines.iter().any(|line| line.lists_kind()),
-        Topic::Manifest => lines.iter().any(|line| line.lists_manifest()),
-        Topic::Lookup(_) => false,
+        Topic::Kind => lines.len(),
+        Topic::Manifest => lines.iter().filter(|line| line.lists_manifest()).count(),
+        Topic::Lookup(_) => 0,
     };
-    if !compared {
-        return None;
+    if text.len() / BYTES_A_LINE >= compared {
+        return 0;
     }
-    Some(path_hash(text))
+    path_hash(text)
 }
 
 impl Listing {
