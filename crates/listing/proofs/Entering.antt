@@ -51,6 +51,22 @@ kind_refused rs n a b e h =
     let none = no_kind (line_kind n) e h in
     (answer_is rs n a b None (Some e) none.0 none.1, rows_are rs n a b None (Some e) none.0 none.1)
 
+-- a line that is taken passed the checks before the one for room
+passed : (h t f : Bool) (r s u : Refusal) (o : Option Refusal) → Ok tt ≡ taken_unless (cond h (Some r) (cond t (Some s) (cond f (Some u) o))) → Ok tt ≡ taken_unless (cond h (Some r) (cond t (Some s) (cond f (Some u) None)))
+passed true t f r s u o x = cc
+passed false true f r s u o x = cc
+passed false false true r s u o x = cc
+passed false false false r s u o x = refl
+
+-- a line that is refused changes nothing
+pub refused_rows : (rs : List Row) (n : ℕ) (a b : Text) (e : Refusal) → Err e ≡ taken_unless (refusal rs n a b) → rs ≡ rows_after rs n a b
+unfolding rows_after
+refused_rows rs n a b e h = at (refusal rs n a b) h
+  where
+    at : (o : Option Refusal) → Err e ≡ taken_unless o → rs ≡ with_row o rs (new_row (line_kind n) a b)
+    at None x = cc
+    at (Some f) x = refl
+
 -- which check fails
 checked : (h t f : Bool) (r s u : Refusal) (o : Option Refusal) → ((e : Refusal) → Err e ≡ taken_unless (cond h (Some r) (cond t (Some s) (cond f (Some u) None))) → cond h (Some r) (cond t (Some s) (cond f (Some u) o)) ≡ Some e) × (Ok tt ≡ taken_unless (cond h (Some r) (cond t (Some s) (cond f (Some u) None))) → (t ≡ false) × (f ≡ false) × (cond h (Some r) (cond t (Some s) (cond f (Some u) o)) ≡ o))
 checked true t f r s u o = (λ e x. cc, λ x. cc)
@@ -67,6 +83,10 @@ module _ (rs : List Row) (n : ℕ) (k : LineKind) (a b : Text) (kind : Ok k ≡ 
 
   is_kind : line_kind n ≡ Some k
   is_kind = a_kind (line_kind n) k kind
+
+  -- a line that is taken
+  pub well_taken : Ok tt ≡ taken_unless (refusal rs n a b) → Ok tt ≡ taken_unless (unlisted rs k a b)
+  well_taken h = passed (headless k rs) (not (spelled k a b)) (not (formed k a b)) refusals.MainBeforeManifest refusals.Text refusals.Form (cond (leb 256 (length rs)) (Some refusals.Full) None) (h ∙ sym (answer_is rs n a b (Some k) (refusal_of rs k a b) is_kind refl))
 
   pub line_refused : (e : Refusal) → Err e ≡ taken_unless (unlisted rs k a b) → (Err e ≡ taken_unless (refusal rs n a b)) × (rs ≡ rows_after rs n a b)
   line_refused e h = (answer_is rs n a b (Some k) (Some e) is_kind (fails e h), rows_are rs n a b (Some k) (Some e) is_kind (fails e h))

@@ -1,15 +1,18 @@
 // What is done with the entries and the order of their slots.
-ghost use Rattle.std.specs.Prelude.{◌≡◌, ◌<◌, ◌≤◌, [], None, length};
+ghost use Rattle.std.specs.Prelude.{◌≡◌, ◌<◌, ◌≤◌, false, [], None, length, ◌==◌};
 ghost use Rattle.stack.specs.Held as list;
 ghost use Rattle.texts.specs.Hashes.{path_hash};
-ghost use Rattle.texts.specs.Parts.{parts};
+ghost use Rattle.texts.specs.Parts.{parts, same_parts};
 ghost use Rattle.cache.specs.Seen.{Placed, fresh, holds, recalled, remember, renewed};
 ghost use Rattle.cache.specs.Held.{held, in_slot, seen};
 
 use super::{Entry, ROOM, Recent};
 use stack::ArrayVec;
-use texts::{Text, path_hash, same_hashed_path};
+use texts::{Text, path_hash, same_hashed_path, same_path};
 use tree::Kind;
+
+// A hash of what is asked pays where a path is held for every so many of its bytes: it is made from each of them, and a comparison without it stops early.
+const BYTES_A_PATH: usize = 8;
 
 impl Entry {
     fn new(path: &[u8], hash: u8, kind: Kind) -> Entry
@@ -19,6 +22,18 @@ impl Entry {
     {
         let path = Text::new(path).unwrap();
         Entry { path, hash, kind }
+    }
+
+    // Whether the entry has the path, which has this hash; with 0 none was made.
+    fn has_path(&self, path: &[u8], hash: u8) -> bool
+        requires hash_of_the_path_if_there_is_one { (hash == 0) ≡ false → hash ≡ path_hash path.now }
+        ensures same_path_part_for_part { result ≡ same_parts (seen self.now).path (parts path.now) }
+    {
+        let held = self.path.as_bytes();
+        if hash == 0 {
+            return same_path(held, path);
+        }
+        same_hashed_path(held, self.hash, path, hash)
     }
 }
 
@@ -51,20 +66,22 @@ impl Recent {
 
     // Where in the order the path is held.
     fn place(&self, path: &[u8], hash: u8) -> Option<usize>
-        requires hash_of_the_path { hash ≡ path_hash path.now }
+        requires hash_of_the_path_if_there_is_one { (hash == 0) ≡ false → hash ≡ path_hash path.now }
         ensures place_if_held { Placed (parts path.now) (held self.now) result }
     {
-        self.order.as_slice().iter().position(|slot| {
-            let entry = self.entry(*slot);
-            same_hashed_path(entry.path.as_bytes(), entry.hash, path, hash)
-        })
+        self.order
+            .as_slice()
+            .iter()
+            .position(|slot| self.entry(*slot).has_path(path, hash))
     }
 
     // Whether the path is held.
     pub fn holds(&self, path: &[u8]) -> bool
         ensures by_its_parts { result ≡ holds (parts path.now) (held self.now) }
     {
-        self.place(path, path_hash(path)).is_some()
+        let few = path.len() / BYTES_A_PATH >= self.order.as_slice().len();
+        let hash = if few { 0 } else { path_hash(path) };
+        self.place(path, hash).is_some()
     }
 
     // The kind of a path that is held, which becomes the latest.

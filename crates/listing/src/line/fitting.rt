@@ -1,5 +1,5 @@
 // What a line says.
-ghost use Rattle.std.specs.Prelude.{◌≡◌, ◌≤◌, [], length};
+ghost use Rattle.std.specs.Prelude.{◌≡◌, ◌≤◌, [], false, length, ◌==◌};
 ghost use Rattle.texts.specs.Hashes.{path_hash};
 ghost use Rattle.texts.specs.Parts.{parts, same_parts};
 ghost use Rattle.listing.specs.Rows.{is_main, is_manifest, kind_listed, row, row_of};
@@ -7,7 +7,7 @@ ghost use Rattle.listing.specs.Meanings.{asked, fits, lists_kind, lists_manifest
 
 use crate::kinds::{LineKind, Topic};
 use crate::line::Line;
-use texts::{MAX_LEN, Text, path_hash, same_bytes, same_hashed_path};
+use texts::{MAX_LEN, Text, path_hash, same_bytes, same_hashed_path, same_path};
 use tree::{Kind, Way};
 
 impl Line {
@@ -36,17 +36,21 @@ impl Line {
         }
     }
 
-    // Whether the line has the path `text`, which has this hash.
+    // Whether the line has the path `text`, which has this hash; with 0 none was made.
     fn has_path(&self, text: &[u8], hash: u8) -> bool
-        requires hash_of_the_path { hash ≡ path_hash text.now }
+        requires hash_of_the_path_if_there_is_one { (hash == 0) ≡ false → hash ≡ path_hash text.now }
         ensures same_path_part_for_part { result ≡ same_parts (parts (row self.now).first) (parts text.now) }
     {
-        same_hashed_path(self.first.as_bytes(), self.hash, text, hash)
+        let first = self.first.as_bytes();
+        if hash == 0 {
+            return same_path(first, text);
+        }
+        same_hashed_path(first, self.hash, text, hash)
     }
 
-    // Whether the line decides what is asked about `text`, which has this hash as a path.
+    // Whether the line decides what is asked about `text`, which has this hash as a path; with 0 none was made.
     pub(crate) fn fits(&self, topic: Topic, text: &[u8], hash: u8) -> bool
-        requires hash_of_the_path { hash ≡ path_hash text.now }
+        requires hash_of_the_path_if_there_is_one { (hash == 0) ≡ false → hash ≡ path_hash text.now }
         ensures fits_what_is_asked { result ≡ fits (asked topic text.now) (row self.now) }
     {
         match topic {
@@ -64,7 +68,7 @@ impl Line {
     }
 
     // Whether the line lists a manifest, a broken one or not.
-    fn lists_manifest(&self) -> bool
+    pub(crate) fn lists_manifest(&self) -> bool
         ensures manifest_or_a_broken_one { result ≡ lists_manifest self.now.kind }
     {
         matches!(self.kind, LineKind::BrokenManifest | LineKind::Manifest)

@@ -28,8 +28,8 @@ impl Listing {
         ensures at_most_256_lines { length (rows self.new) ≤ 256 }
         ensures earlier_lines_go_on_deciding { (q : Asked) (i : ℕ) → place q (rows self.old) ≡ Some i → place q (rows self.new) ≡ Some i }
     {
+        self.check_line(kind, first, second)?;
         let kind = LineKind::try_from(kind)?;
-        self.check(kind, first, second)?;
         let line = Line::new(kind, first, second);
         self.lines.push(line).map_err(|_| Refusal::Full)
     }

@@ -1,15 +1,34 @@
 // The first line that fits a question decides.
-ghost use Rattle.std.specs.Prelude.{◌≡◌, ◌+◌, ◌<◌, ◌≤◌, [], ◌∷◌, length, drop, MatchOption};
+ghost use Rattle.std.specs.Prelude.{◌≡◌, ◌+◌, ◌<◌, ◌≤◌, [], ◌∷◌, false, length, drop, ◌==◌, MatchOption};
 ghost use Rattle.std.specs.Option.{option_map};
 ghost use Rattle.stack.specs.Items.{item_at};
 ghost use Rattle.listing.specs.Entries.{rows};
 ghost use Rattle.listing.specs.Meanings.{DecidesAt, asked, deciding, mains_behind, place};
 ghost use Rattle.listing.specs.Rows.{row};
+ghost use Rattle.texts.specs.Hashes.{path_hash};
 
 use crate::kinds::Topic;
 use crate::line::Line;
 use crate::listing::Listing;
 use texts::path_hash;
+
+// A hash of what is asked pays where one line is compared for every so many of its bytes: it is made from each of them, and a comparison without it stops early.
+const BYTES_A_LINE: usize = 8;
+
+// The hash of what is asked where it pays, and else 0.
+fn hash_for(lines: &[Line], topic: Topic, text: &[u8]) -> u8
+    ensures hash_of_the_path_if_there_is_one { (result == 0) ≡ false → result ≡ path_hash text.now }
+{
+    let compared = match topic {
+        Topic::Kind => lines.len(),
+        Topic::Manifest => lines.iter().filter(|line| line.lists_manifest()).count(),
+        Topic::Lookup(_) => 0,
+    };
+    if text.len() / BYTES_A_LINE >= compared {
+        return 0;
+    }
+    path_hash(text)
+}
 
 impl Listing {
     pub(crate) fn line(&self, i: usize) -> &Line
@@ -24,8 +43,8 @@ impl Listing {
         ensures place_of_the_first_that_fits { result ≡ place (asked topic text.now) (rows self.now) }
         ensures rows_from_there_decide { MatchOption result (deciding (asked topic text.now) (rows self.now) ≡ []) (DecidesAt (asked topic text.now) (rows self.now)) }
     {
-        let hash = path_hash(text);
         let lines = self.lines.as_slice();
+        let hash = hash_for(lines, topic, text);
         lines.iter().position(|line| line.fits(topic, text, hash))
     }
 
