@@ -1,18 +1,21 @@
 -- What an answer tells with its buffers is the end that is defined. Assumes nothing.
-use Rattle.std.proofs.Common.{◌≡◌, ℕ, List, length, drop, Some, None, Option, refl, ap, ◌∙◌}
+use Rattle.std.proofs.Common.{◌≡◌, ℕ, List, length, drop, Some, None, Ok, Err, Option, Result, refl, ap, ◌∙◌}
 use Rattle.std.proofs.Math.Seq.{take-append_seam}
 use Rattle.texts.specs.Texts.{Text}
 use Rattle.tree.specs.Acceptances.{Allowed}
 use Rattle.tree.specs.Meanings.{Meaning}
 use Rattle.settings.specs.Tables.{Tables}
+use Rattle.lookup.specs.declared.resolution.Found.{Found}
+use Rattle.lookup.specs.declared.resolution.Refused.{Refused}
 use Rattle.lookup.specs.declared.resolution.Resolution.{Resolution}
 use Rattle.lookup.specs.Faults.{texts}
 use Rattle.lookup.specs.Outcomes.{Outcome, Room, answer, buffers_after, path, refused, room_of, written}
 use Rattle.lookup.specs.Resolutions.{length_of, resolution_of}
 use Rattle.lookup.proofs.Answering.{same_number}
-use Rattle.resolver.specs.Runs.{Buffers}
+use Rattle.resolver.specs.Runs.{Buffers, paths_in}
 use Rattle.sheets.specs.Rows.{lent}
 use Rattle.explain.specs.Ends.{end_of, front_text, in_path, in_refusal, told_end}
+use Rattle.explain.specs.Telling.{paths_of}
 
 -- a text that was written to a buffer stands at its front
 front_written : (t : Option Text) (b : List ℕ) → front_text (length_of t) (written t b) ≡ t
@@ -37,3 +40,8 @@ ends_as_defined m allowed t room dir r before after a as_lent answered kept =
     (λ i. told_end (answered i).outcome (answered i).rounds (kept i))
     ∙ told_as_defined (answer m allowed t room dir r) before
     ∙ ap (λ (x : Room). end_of (answer m allowed t x dir r)) as_lent
+
+-- an end hands out as many paths as its answer
+pub counted : (o : Result Found Refused) (rounds : ℕ) (b : Buffers) → paths_in o ≡ paths_of (told_end o rounds b)
+counted (Ok f) rounds b = refl
+counted (Err e) rounds b = refl

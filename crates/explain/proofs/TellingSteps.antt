@@ -1,5 +1,5 @@
 -- What is told of a question, by its definition. Assumes nothing.
-use Rattle.std.proofs.Common.{◌≡◌, ℕ, zero, suc, ◌<◌, length, get_or, arith, Bool, true, false, List, [], ◌∷◌, ◌++◌, map, take, drop, string_bytes, IfOk, Some, None, Option, Ok, Err, Result, String, Global, refl, sym, ap, subst, ◌∙◌}
+use Rattle.std.proofs.Common.{◌≡◌, ℕ, zero, suc, ◌<◌, length, get_or, arith, Bool, true, false, List, [], ◌∷◌, ◌++◌, map, take, drop, Some, None, Option, Ok, Err, Result, refl, ap, ◌∙◌}
 use Rattle.std.specs.List.{flat_map}
 use Rattle.lines.specs.Sheets.{LINE_END}
 use Rattle.texts.specs.Texts.{Text}
@@ -36,15 +36,6 @@ module _ (aliases : List Alias) (r : Text) where
   labels_is None ts tries e = refl
   labels_is (Some place) ts tries e =
       ap (λ (words : Text). phrase (flat_map (passed_over r) (take place aliases) ∷ touching_words r (label_of (drop place aliases)) ∷ words ∷ (LINE_END ∷ []) ∷ [])) (outcomes_is ts ∙ ap attempts_words e)
-
--- a text that was made, if memory sufficed
-pub made_so : {E : Type 0} (res : Result (String Global) E) (s t : Text) → IfOk res (λ made. string_bytes made ≡ s) → s ≡ t → IfOk res (λ made. string_bytes made ≡ t)
-made_so (Ok made) s t h e = h ∙ e
-made_so (Err x) s t h e = h
-
-pub made_then : {E : Type 0} (res : Result (String Global) E) (t : Text) (P : Text → Type 0) → IfOk res (λ made. string_bytes made ≡ t) → P t → IfOk res (λ made. P (string_bytes made))
-made_then (Ok made) t P h p = subst P (sym h) p
-made_then (Err x) t P h p = h
 
 -- an item of a list, whatever stands beyond its end
 pub same_item : {X : Type 0} (xs : List X) (i : ℕ) (d e : X) → i < length xs → get_or xs i d ≡ get_or xs i e

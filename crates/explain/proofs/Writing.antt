@@ -1,6 +1,7 @@
 -- A text that is written in turn. Assumes nothing.
-use Rattle.std.proofs.Common.{◌≡◌, ℕ, ◌+◌, ◌<◌, List, [], ◌∷◌, ◌++◌, map, length, take, get_or, sym, ap, ◌∙◌}
-use Rattle.std.proofs.lemmas.List.{flat_map_more, map_push, take_more}
+use Rattle.std.proofs.Common.{◌≡◌, ℕ, ◌+◌, ◌<◌, List, [], ◌∷◌, ◌++◌, map, length, take, get_or, Some, None, Option, sym, ap, ◌∙◌, append_assoc}
+use Rattle.std.proofs.lemmas.List.{append-nil, flat_map_more, map_push, take_more}
+use Rattle.std.specs.Io.KnownBytes.{Appends}
 use Rattle.std.specs.List.{flat_map}
 use Rattle.std.proofs.Output.{has_written_append, has_written_of_eq, writes_in_calls_nil}
 use Rattle.std.specs.declared.fmt.Formatter.{Formatter}
@@ -26,3 +27,15 @@ one_more f words xs i x inside is =
     ap (λ (ys : List _). flat_map words (map f ys)) (take_more xs i x inside ∙ ap (λ (y : _). take i xs ++ y ∷ []) (sym is))
     ∙ ap (flat_map words) (map_push f (take i xs) x)
     ∙ sym (flat_map_more words [] (map f (take i xs)) (f x))
+
+-- a writer that took nothing
+pub took_nothing : (a : Option (List ℕ)) → Appends a a []
+took_nothing None = tt
+took_nothing (Some x) = sym (append-nil x)
+
+-- a writer that took one text and then another
+pub took_both : (a b c : Option (List ℕ)) (s t : List ℕ) → Appends a b s → Appends b c t → Appends a c (s ++ t)
+took_both None b c s t p q = tt
+took_both (Some x) None c s t p q = absurd p
+took_both (Some x) (Some y) None s t p q = absurd q
+took_both (Some x) (Some y) (Some z) s t p q = q ∙ ap (λ (l : List ℕ). l ++ t) p ∙ append_assoc x s t

@@ -1,6 +1,7 @@
 -- All that is told of a sheet, as one text. Assumes nothing.
 use Rattle.std.specs.Prelude.{◌≡◌, ℕ, ◌+◌, min, Bool, true, false, cond, List, [], ◌∷◌, ◌++◌, IfSome, take, drop, length, map, nat_le, is_some, Some, None, Option, Ok, Err, Result, codes}
 use Rattle.std.specs.List.{flat_map}
+use Rattle.std.specs.Io.KnownBytes.{Appends}
 use Rattle.lines.specs.Sheets.{LINE_END, behind_line, line_of}
 use Rattle.texts.specs.Parts.{parts}
 use Rattle.texts.specs.Texts.{Text, empty}
@@ -31,6 +32,10 @@ use Rattle.explain.specs.Quiet.{QuietQuestion, quiet_outcome, quiet_sentence}
 use Rattle.explain.specs.Readings.{Meaning as Read, fragment_first, meant, within}
 use Rattle.explain.specs.Told.{told}
 use Rattle.explain.specs.Trials.{deciding}
+
+-- a writer holds a text more than before, of which this is so; where its bytes are not known, nothing is said of them
+abbrev pub Written : Option Text → Option Text → (Text → Type 0) → Type 0
+Written old new Says = (more : Text) × (Appends old new more × Says more)
 
 -- an attempt, as the first one of a label or behind others
 abbrev pub attempt_words : Bool → Attempt → Text

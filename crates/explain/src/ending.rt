@@ -1,5 +1,5 @@
 // What a lookup of the resolver ends in.
-ghost use Rattle.std.specs.Prelude.{◌≡◌, ◌+◌, IfOk, OnErr, min};
+ghost use Rattle.std.specs.Prelude.{◌≡◌, ◌+◌, min};
 ghost use Rattle.settings.specs.Meant.{tables};
 ghost use Rattle.lookup.specs.Outcomes.{answer};
 ghost use Rattle.resolver.specs.Runs.{ceiling, paths_in};
@@ -9,9 +9,25 @@ ghost use Rattle.sheets.specs.Rows.{lent};
 use crate::question::Question;
 use lookup::{MIN_AREA, MIN_ROWS, OpenCall, Resolution};
 use resolver::Resolver;
-use std::alloc::{AllocError, Global};
 use texts::MAX_LEN;
 use tree::{FileTree, Host, Policy};
+
+/// The memory that is lent to the lookups of a sheet, one after the other.
+#[derive(Drop)]
+pub struct Memory {
+    area: [u8; MIN_AREA],
+    rows: [OpenCall; MIN_ROWS],
+}
+
+impl Memory {
+    /// As much as a lookup asks for, blank.
+    pub fn new() -> Memory {
+        Memory {
+            area: [0; MIN_AREA],
+            rows: [OpenCall::blank(); MIN_ROWS],
+        }
+    }
+}
 
 /// What a lookup ends in: its answer, and the buffers with its texts.
 #[derive(Clone, Copy)]
@@ -23,39 +39,36 @@ pub struct LookupEnd {
 }
 
 impl LookupEnd {
-    /// Looks a question up, with memory of its own.
+    /// Looks a question up, with the memory that is lent.
     pub fn of<H: Host, P: Policy>(
-        alloc: Global,
         resolver: &mut Resolver<H, P>,
         question: Question,
-    ) -> Result<LookupEnd, AllocError>
+        memory: &mut Memory,
+    ) -> LookupEnd
         requires sound { H.FileTree.sound resolver.old.host }
-        ensures ends_as_defined { IfOk result (λ e. end_in e ≡ end_of (answer (H.FileTree.meaning resolver.old.host) (P.Policy.allowed resolver.old.policy) (tables resolver.old.settings) lent question.entry.directory.now question.entry.request.now)) }
-        ensures a_path_counts { IfOk result (λ e. resolver.new.handed_out ≡ min (resolver.old.handed_out + paths_in e.resolution.outcome) ceiling) }
-        ensures nothing_counts_without_memory { OnErr result (resolver.new.handed_out ≡ resolver.old.handed_out) }
+        ensures ends_as_defined { end_in result ≡ end_of (answer (H.FileTree.meaning resolver.old.host) (P.Policy.allowed resolver.old.policy) (tables resolver.old.settings) lent question.entry.directory.now question.entry.request.now) }
+        ensures a_path_counts { resolver.new.handed_out ≡ min (resolver.old.handed_out + paths_in result.resolution.outcome) ceiling }
         ensures settings_and_policy_stay { (resolver.new.settings ≡ resolver.old.settings) × (resolver.new.policy ≡ resolver.old.policy) }
         ensures same_meaning { H.FileTree.meaning resolver.new.host ≡ H.FileTree.meaning resolver.old.host }
         ensures still_sound { H.FileTree.sound resolver.new.host }
     {
-        let mut area = vec![in alloc; 0; MIN_AREA]?;
-        let mut rows = vec![in alloc; OpenCall::blank(); MIN_ROWS]?;
         let mut first = [0; MAX_LEN];
         let mut second = [0; MAX_LEN];
         let mut third = [0; MAX_LEN];
         let resolution = resolver.resolve(
             question.directory,
             question.request,
-            &mut area,
-            &mut rows,
+            &mut memory.area,
+            &mut memory.rows,
             &mut first,
             &mut second,
             &mut third,
         );
-        Ok(LookupEnd {
+        LookupEnd {
             resolution,
             first,
             second,
             third,
-        })
+        }
     }
 }

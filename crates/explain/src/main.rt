@@ -17,13 +17,16 @@ mod telling;
 mod trial;
 mod whole;
 
-use std::io::Read;
+use std::io;
+use std::io::{BufWriter, Read, Write};
 use whole::explain;
 
+// What was told is written out before an error is handed on.
 fn main(rt: HostRuntime) -> anyhow::Result<()> {
     let mut sheet = Vec::new(rt.alloc());
     rt.stdin().read_to_end(&mut sheet)?;
-    let told = explain(rt.alloc(), sheet.as_slice())?;
-    print!(rt; "{told}")?;
-    Ok(())
+    let mut out = BufWriter::new(rt.alloc(), io::writer(&rt))?;
+    let told = explain(rt.alloc(), sheet.as_slice(), &mut out);
+    out.flush()?;
+    told
 }

@@ -1,9 +1,35 @@
 // Bytes as a person can read them.
-ghost use Rattle.std.specs.Prelude.{Some};
+ghost use Rattle.std.specs.Prelude.{◌≡◌, ◌<◌, [], ◌∷◌, false, Some};
+ghost use Rattle.std.specs.Fmt.{digit_glyph};
 ghost use Rattle.explain.specs.Legible.{legible, legible_byte};
 
 use std::fmt;
 use texts::is_printable;
+
+// The digit of a number in hexadecimal.
+fn digit(n: u8) -> &'static str
+    requires below_16 { n < 16 }
+    ensures hexadecimal_digit { result.now ≡ digit_glyph false n ∷ [] }
+{
+    match n {
+        0 => "0",
+        1 => "1",
+        2 => "2",
+        3 => "3",
+        4 => "4",
+        5 => "5",
+        6 => "6",
+        7 => "7",
+        8 => "8",
+        9 => "9",
+        10 => "a",
+        11 => "b",
+        12 => "c",
+        13 => "d",
+        14 => "e",
+        _ => "f",
+    }
+}
 
 // A byte that prints as it is, any other as `\xNN`.
 #[derive(Clone, Copy)]
@@ -17,7 +43,8 @@ impl fmt::Display for ShownByte {
         if is_printable(&[b]) {
             write!(f, "{}", char::from(b))
         } else {
-            write!(f, "\\x{b:02x}")
+            // each digit by itself, which is quicker than a number that is padded
+            write!(f, "\\x{}{}", digit(b / 16), digit(b % 16))
         }
     }
 }

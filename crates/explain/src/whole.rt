@@ -1,5 +1,6 @@
-// All that is told of a sheet, as one text.
-ghost use Rattle.std.specs.Prelude.{◌≡◌, [], IfOk, map, string_bytes};
+// All that is told of a sheet, each sentence written as it is made.
+ghost use Rattle.std.specs.Prelude.{◌≡◌, [], IfOk, OnOk, map};
+ghost use Rattle.std.specs.Io.KnownBytes.{Appends};
 ghost use Rattle.std.specs.List.{flat_map};
 ghost use Rattle.cache.specs.Held.{Agrees, held};
 ghost use Rattle.listing.specs.Entries.{rows};
@@ -7,7 +8,7 @@ ghost use Rattle.listing.specs.Meanings.{listed};
 ghost use Rattle.settings.specs.Meant.{tables};
 ghost use Rattle.settings.specs.Tables.{unset};
 ghost use Rattle.explain.specs.Filling.{filled_by, noted};
-ghost use Rattle.explain.specs.Telling.{TellsSheet, refused_line};
+ghost use Rattle.explain.specs.Telling.{TellsSheet, Written, refused_line};
 
 use crate::front::fill;
 use crate::sentence::{Refused, Tally};
@@ -17,6 +18,7 @@ use listing::Listing;
 use resolver::Resolver;
 use settings::Settings;
 use std::alloc::{AllocError, Global};
+use std::io::Write;
 use tree::PartCount;
 
 // How many parts a path has at most that is handed out.
@@ -41,37 +43,39 @@ fn resolver_of(
 }
 
 // The lines of the front that are refused, each with its sentence.
-fn refusals(alloc: Global, refused: &[Refused]) -> Result<String, AllocError>
-    ensures each_in_its_order { IfOk result (λ s. string_bytes s ≡ flat_map refused_line (map noted refused.now)) }
+fn refusals<W: Write>(refused: &[Refused], out: &mut W) -> anyhow::Result<()>
+    ensures each_in_its_order { OnOk result (Appends (W.Write.contents out.old) (W.Write.contents out.new) (flat_map refused_line (map noted refused.now))) }
 {
-    let mut told = String::new(alloc);
     for refusal in refused {
-        write!(told, "{refusal}\n")?;
+        writeln!(out, "{refusal}")?;
     }
-    Ok(told)
+    Ok(())
 }
 
+// The resolver is made first, and so the lines that are refused are held once.
 /// All that is told of a sheet: the lines that are refused in its front, those behind it in their order, and the tally.
-pub fn explain(alloc: Global, sheet: &[u8]) -> Result<String, AllocError>
-    ensures all_that_is_told { IfOk result (λ s. TellsSheet sheet.now (string_bytes s)) }
+pub fn explain<W: Write>(alloc: Global, sheet: &[u8], out: &mut W) -> anyhow::Result<()>
+    ensures all_that_is_told { OnOk result (Written (W.Write.contents out.old) (W.Write.contents out.new) (TellsSheet sheet.now)) }
 {
+    let mut resolver = resolver_of(alloc, sheet)?;
     let mut listing = Listing::new();
     let mut settings = Settings::new();
     let filled = fill(alloc, &mut listing, &mut settings, sheet)?;
     let mut host = Cache::new(listing);
     let policy = PartCount { max: MAX_DEPTH };
-    let mut resolver = resolver_of(alloc, sheet)?;
-    let front = refusals(alloc, filled.refused.as_slice())?;
-    let lines = tell_lines(
+    refusals(filled.refused.as_slice(), out)?;
+    tell_lines(
         alloc,
         &mut host,
         &policy,
         &settings,
         &mut resolver,
         filled.lines,
+        out,
     )?;
     let tally = Tally {
         paths: resolver.tally(),
     };
-    format!(in alloc; "{front}{lines}{tally}\n")
+    writeln!(out, "{tally}")?;
+    Ok(())
 }

@@ -1,5 +1,6 @@
-use Rattle.std.proofs.Common.{◌≡◌, ℕ, true, List, ◌++◌, map, Some, None, Option, sym, ap, ◌∙◌}
+use Rattle.std.proofs.Common.{◌≡◌, ℕ, true, List, ◌++◌, map, Some, None, Option, sym, ap, subst, ◌∙◌}
 use Rattle.std.proofs.lemmas.List.{append-nil}
+use Rattle.std.specs.Io.KnownBytes.{Appends}
 use Rattle.texts.specs.Texts.{Text}
 use Rattle.tree.specs.Meanings.{Meaning}
 use Rattle.settings.specs.Meant.{tables}
@@ -13,7 +14,8 @@ use Rattle.explain.specs.Offers.{candidate_lines, judged, shown}
 use Rattle.explain.specs.Readings.{within}
 use Rattle.explain.specs.Telling.{attempts_lines, offered_lines}
 use Rattle.explain.specs.Trials.{deciding, tried}
-use Rattle.explain.proofs.TellingSteps.{labels_is, made_so}
+use Rattle.explain.proofs.TellingSteps.{labels_is}
+use Rattle.explain.proofs.Writing.{took_both}
 use Rattle.explain.proofs.telling.looked_up.Goals as goal
 
 pub returns-in_default-clause-lines_on_labels_and_candidates : goal.returns-in_default-clause-lines_on_labels_and_candidates
@@ -32,8 +34,9 @@ returns-in_default-clause-lines_on_labels_and_candidates g c =
     ∙ ap (λ (d : Option ℕ). attempts_lines rows r d (attempts m dir r rows)) decides
     ∙ ap (λ (ls : List Alias). attempts_lines ls r (deciding m dir r ls) (attempts m dir r ls)) c.aliases-aliases.ensures.labels_in_the_order_written in
     let none : None ≡ within (sought_path dir r) = c.in_default.ensures.sought_path_if_short in
-    made_so c.format.result (labels_lines rows r c.deciding.result ts) _ c.format.ensures.ok
+    subst (Appends (g.W.Write.contents c.args.out.now) (g.W.Write.contents c.write.new.self))
     (labels ∙ sym (append-nil _) ∙ ap (λ (p : Option Text). attempts_lines t.aliases r (deciding m dir r t.aliases) (attempts m dir r t.aliases) ++ offered_lines m allowed t dir r p) none)
+    c.in_ok-write.ensures.bytes
 
 pub returns-clause-lines_on_labels_and_candidates : goal.returns-clause-lines_on_labels_and_candidates
 returns-clause-lines_on_labels_and_candidates g c =
@@ -58,6 +61,7 @@ returns-clause-lines_on_labels_and_candidates g c =
     ∙ c.in_ok-offers.ensures.every_candidate_with_its_verdict
     ∙ (λ k. map (judged (same k) allowed t.restrictions) (candidates t t.fully_specified (same k) (c.asks_for_directory-inside.ensures.slash_at_the_end_or_a_dot k) p)) in
     let some : Some p ≡ within (sought_path dir r) = ap Some c.as_bytes-path.ensures.bytes_of_the_text ∙ c.in-Some.ensures.sought_path_if_short in
-    made_so c.format-2.result (labels_lines rows r c.deciding.result ts ++ candidate_lines true (map (shown p) os)) _ c.format-2.ensures.ok
+    subst (Appends (g.W.Write.contents c.args.out.now) (g.W.Write.contents c.write-2.new.self))
     ((λ k. labels k ++ candidate_lines true (judges k))
     ∙ ap (λ (q : Option Text). attempts_lines t.aliases r (deciding m dir r t.aliases) (attempts m dir r t.aliases) ++ offered_lines m allowed t dir r q) some)
+    (took_both _ _ _ _ _ c.in_ok-write.ensures.bytes c.in_ok-write-2.ensures.bytes)

@@ -1,7 +1,7 @@
-use Rattle.std.proofs.Common.{◌≡◌, string_bytes}
+use Rattle.std.proofs.Common.{◌≡◌}
 use Rattle.settings.specs.Meant.{tables}
 use Rattle.explain.specs.SheetLines.{left_of, lines_before}
-use Rattle.explain.specs.Telling.{TellsLines}
+use Rattle.explain.specs.Telling.{TellsLines, Written}
 use Rattle.explain.proofs.telling.tell_lines.Given as goal
 
 -- The lines in front are told.
@@ -14,6 +14,7 @@ invariant-loop-number g l = record {
   same_settings : l.resolver.settings ≡ l.initial.resolver.settings;
   same_policy : l.resolver.policy ≡ l.initial.resolver.policy;
   told_so_far :
-      TellsLines (g.H.FileTree.meaning l.initial.host) (g.G.FileTree.meaning l.initial.resolver.host) (g.P.Policy.allowed l.policy) (g.P.Policy.allowed l.initial.resolver.policy) (tables l.settings) (tables l.initial.resolver.settings)
-      (lines_before l.initial.number-iterator) (left_of l.initial.number-iterator) l.initial.resolver.handed_out (lines_before l.number-iterator) (left_of l.number-iterator) l.resolver.handed_out (string_bytes l.told);
+      Written (g.W.Write.contents l.initial.out) (g.W.Write.contents l.out)
+      (TellsLines (g.H.FileTree.meaning l.initial.host) (g.G.FileTree.meaning l.initial.resolver.host) (g.P.Policy.allowed l.policy) (g.P.Policy.allowed l.initial.resolver.policy) (tables l.settings) (tables l.initial.resolver.settings)
+      (lines_before l.initial.number-iterator) (left_of l.initial.number-iterator) l.initial.resolver.handed_out (lines_before l.number-iterator) (left_of l.number-iterator) l.resolver.handed_out);
 }

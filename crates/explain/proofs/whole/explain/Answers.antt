@@ -1,5 +1,6 @@
-use Rattle.std.proofs.Common.{◌≡◌, [], ◌∷◌, map, length, nat_le, string_bytes, ap, ◌∙◌}
+use Rattle.std.proofs.Common.{◌≡◌, ℕ, [], ◌∷◌, ◌++◌, map, length, nat_le, refl, ap, subst, ◌∙◌}
 use Rattle.std.proofs.Math.Path.{transport}
+use Rattle.std.specs.Io.KnownBytes.{Appends}
 use Rattle.std.specs.List.{flat_map}
 use Rattle.lines.specs.Sheets.{LINE_END}
 use Rattle.texts.specs.Parts.{parts}
@@ -11,12 +12,12 @@ use Rattle.explain.specs.Ends.{tally_sentence}
 use Rattle.explain.specs.Filling.{Front, filled_by, front_of, noted}
 use Rattle.explain.specs.Legible.{phrase}
 use Rattle.explain.specs.SheetLines.{left_of, lines_before}
-use Rattle.explain.specs.Telling.{TellsFront, TellsRest, few_parts, refused_line}
-use Rattle.explain.proofs.TellingSteps.{made_then}
+use Rattle.explain.specs.Telling.{TellsRest, few_parts, refused_line}
+use Rattle.explain.proofs.Writing.{took_both}
 use Rattle.explain.proofs.whole.explain.Goals as goal
 
 pub returns : goal.returns
-returns c =
+returns g c =
     let front : Front = filled_by [] unset c.args.sheet.now in
     let filled = c.in_ok-filled.filled in
     let fills : front_of (rows c.fill.new.listing) (tables c.fill.new.settings) filled ≡ front =
@@ -28,15 +29,21 @@ returns c =
     let refused : map noted filled.refused.items ≡ front.refused = ap (λ (f : Front). f.refused) fills in
     let resolver = c.in_ok-resolver.ensures in
     let count = c.tell_lines.new.resolver.handed_out in
-    let lines = string_bytes c.in_ok-lines.lines in
+    let told = c.in_ok-tell_lines.ensures.line_by_line_to_the_end in
+    let lines = told.0 in
     let rest : TellsRest (listed front.rows) (listed front.rows) few_parts few_parts front.tables front.tables front.lines front.rest 0 count lines =
     transport
     (λ k. TellsRest (listed (listing k)) (listed (resolver.listing_of_the_front k)) few_parts (λ path. nat_le (length (parts path)) (resolver.policy_of_255_parts k)) (settings k) (resolver.settings_of_the_front k) (before k) (left k) (resolver.no_path_yet k) count lines)
-    c.in_ok-lines.ensures.line_by_line_to_the_end in
-    let refusals : string_bytes c.in_ok-front.front ≡ flat_map refused_line front.refused =
-    c.in_ok-front.ensures.each_in_its_order ∙ (λ k. flat_map refused_line (map noted (c.as_slice.ensures.value k))) ∙ ap (flat_map refused_line) refused in
+    told.1.1 in
+    let is : flat_map refused_line (map noted c.as_slice.result.now) ≡ flat_map refused_line front.refused =
+    (λ k. flat_map refused_line (map noted (c.as_slice.ensures.value k))) ∙ ap (flat_map refused_line) refused in
+    let refusals : Appends (g.W.Write.contents c.args.out.now) (g.W.Write.contents c.refusals.new.out) (flat_map refused_line front.refused) =
+    subst (Appends (g.W.Write.contents c.args.out.now) (g.W.Write.contents c.refusals.new.out)) is c.in_ok-refusals.ensures.each_in_its_order in
+    let tally : Appends (g.W.Write.contents c.tell_lines.new.out) (g.W.Write.contents c.writeln.new.self) (tally_sentence count ++ LINE_END ∷ []) =
+    subst (λ (n : ℕ). Appends (g.W.Write.contents c.tell_lines.new.out) (g.W.Write.contents c.writeln.new.self) (tally_sentence n ++ LINE_END ∷ [])) c.tally.ensures.paths_handed_out c.in_ok-writeln.ensures.bytes in
     record {
-      all_that_is_told =
-          made_then c.format.result _ (TellsFront front) c.format.ensures.ok
-          (lines, (count, (rest, (λ k. phrase (refusals k ∷ lines ∷ tally_sentence (c.tally.ensures.paths_handed_out k) ∷ (LINE_END ∷ []) ∷ [])))));
+      all_that_is_told = (
+        phrase (flat_map refused_line front.refused ∷ lines ∷ tally_sentence count ∷ (LINE_END ∷ []) ∷ []),
+        (took_both _ _ _ _ _ refusals (took_both _ _ _ _ _ told.1.0 tally), (lines, (count, (rest, refl)))),
+      );
     }

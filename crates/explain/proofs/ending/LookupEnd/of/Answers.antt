@@ -10,13 +10,13 @@ pub returns-clause-ends_as_defined : goal.returns-clause-ends_as_defined
 returns-clause-ends_as_defined g c =
     let s = c.args.resolver.now in
     let new = c.resolve-resolution.new in
-    let area = c.deref_mut.result.now in
-    let rows = c.deref_mut-2.result.now in
+    let area = c.args.memory.now.area in
+    let rows = c.args.memory.now.rows in
     let zeros : List ℕ = replicate 255 0 in
     let before : Buffers = (zeros, (zeros, zeros)) in
     let after : Buffers = (new.first, (new.second, new.third)) in
-    let wide : length area ≡ 131072 = omega (arith, ap length c.deref_mut.ensures.value, c.in_ok-area.ensures.len) in
-    let many : length rows ≡ 1024 = omega (arith, ap length c.deref_mut-2.ensures.value, c.in_ok-rows.ensures.len) in
+    let wide : length area ≡ 131072 = omega arith in
+    let many : length rows ≡ 1024 = omega arith in
     let long : length zeros ≡ 255 = length-replicate {A = ℕ} 255 0 in
     ends_as_defined (g.H.FileTree.meaning s.host) (g.P.Policy.allowed s.policy) (tables s.settings) (room_of area rows zeros zeros zeros) c.args.question.directory.now c.args.question.request.now before after c.resolve-resolution.result
     (room_is_lent area rows zeros zeros zeros wide many long long long)
