@@ -153,7 +153,8 @@ fn step_main<H: Host>(
     let Some(text) = host.main_text(sought.path, main as usize) else {
         return (None, begin(Stage::Path(Form::Index)));
     };
-    let Some(joined) = join_main(sought.path, text) else {
+    // behind a reference: by value the text would be copied once more
+    let Some(joined) = &join_main(sought.path, text) else {
         return (Some(Err(Fault::TooLong)), begin(Stage::Done));
     };
     let below = Sought {

@@ -1,4 +1,4 @@
-use Rattle.std.proofs.Common.{◌<◌, ◌≤◌, List, ◌∷◌, length, sym, ap, ◌∙◌, arith}
+use Rattle.std.proofs.Common.{◌<◌, ◌≤◌, List, ◌∷◌, length, option_map, sym, ap, ◌∙◌, arith}
 use Rattle.texts.specs.Parts.{parts}
 use Rattle.texts.specs.Held.{bytes_of}
 use Rattle.texts.specs.Texts.{Text}
@@ -31,7 +31,7 @@ returns-in_default-join_main-clause-next_or_moved g c =
     let s = c.args.sought.now in
     let t = tables s.settings.now in
     let m = g.H.FileTree.meaning c.args.host.now in
-    main_long t s.fully_specified s.path.now m c.args.main c.in-Some.text.now c.in-Some.ensures.main_text_in_its_place c.in_default-join_main.ensures.joined_to_the_path c.args.form c.args.place
+    main_long t s.fully_specified s.path.now m c.args.main c.in-Some.text.now c.in-Some.ensures.main_text_in_its_place (ap (option_map bytes_of) (sym c.in_default-join_main.is) ∙ c.join_main.ensures.joined_to_the_path) c.args.form c.args.place
     ∙ ap (λ (cs : List Candidate). overlong ∷ cs) (at_first t s.fully_specified s.path.now m _ _ c.begin-in_default-join_main.ensures.first_place_of_the_stage)
 
 pub behind_main-requires : goal.behind_main-requires
@@ -46,7 +46,7 @@ returns-in-Some-candidate-clause-next_or_moved g c =
     let t = tables s.settings.now in
     let m = g.H.FileTree.meaning c.args.host.now in
     main_next t s.fully_specified s.path.now m c.args.main c.in-Some.text.now c.in-Some.ensures.main_text_in_its_place
-    (bytes_of c.in-Some-join_main.joined) c.in-Some-join_main.ensures.joined_to_the_path c.args.form c.args.place _
+    (bytes_of c.in-Some-join_main.joined) (ap (option_map bytes_of) (sym c.in-Some-join_main.is) ∙ c.join_main.ensures.joined_to_the_path) c.args.form c.args.place _
     (c.in-Some-candidate.ensures.candidate_at_the_place s.path.now ∙ ap (λ (q : Text). item_at (form_candidates t s.fully_specified c.args.form q) c.args.place) c.as_bytes.ensures.bytes_of_the_text)
 
 pub returns-in-None-clause-next_or_moved : goal.returns-in-None-clause-next_or_moved
@@ -55,7 +55,7 @@ returns-in-None-clause-next_or_moved g c =
     let t = tables s.settings.now in
     let m = g.H.FileTree.meaning c.args.host.now in
     main_done t s.fully_specified s.path.now m c.args.main c.in-Some.text.now c.in-Some.ensures.main_text_in_its_place
-    (bytes_of c.in-Some-join_main.joined) c.in-Some-join_main.ensures.joined_to_the_path c.args.form c.args.place
+    (bytes_of c.in-Some-join_main.joined) (ap (option_map bytes_of) (sym c.in-Some-join_main.is) ∙ c.join_main.ensures.joined_to_the_path) c.args.form c.args.place
     (c.in-None.ensures.candidate_at_the_place s.path.now ∙ ap (λ (q : Text). item_at (form_candidates t s.fully_specified c.args.form q) c.args.place) c.as_bytes.ensures.bytes_of_the_text)
     ∙ ap (λ (h : Stage). stage_left t s.fully_specified s.path.now m h 0) (sym c.behind_main.ensures.main_files_or_the_next_main_text)
     ∙ at_first t s.fully_specified s.path.now m _ _ c.begin-in-None.ensures.first_place_of_the_stage
