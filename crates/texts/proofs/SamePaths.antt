@@ -45,10 +45,10 @@ hash_clean t n e h = at (clean t) refl
     at true c = c
     at false c = absurd (eqb-false n 0 h (e ∙ cond-false _ _ _ c))
 
-module _ (a b : Text) (m n : ℕ) (ha : m ≡ path_hash a) (hb : n ≡ path_hash b) (fa : eqb m 0 ≡ false) (fb : eqb n 0 ≡ false) where
+module _ (a b : Text) (m n : ℕ) (ha : eqb m 0 ≡ false → m ≡ path_hash a) (hb : eqb n 0 ≡ false → n ≡ path_hash b) (fa : eqb m 0 ≡ false) (fb : eqb n 0 ≡ false) where
   -- paths of one hash are the same exactly if their bytes are
   pub hashed_same : bytes_eq a b ≡ same_parts (parts a) (parts b)
-  hashed_same = clean_same a b (hash_clean a m ha fa) (hash_clean b n hb fb)
+  hashed_same = clean_same a b (hash_clean a m (ha fa) fa) (hash_clean b n (hb fb) fb)
 
   -- paths of two hashes are not the same
   pub hashed_apart : eqb m n ≡ false → false ≡ same_parts (parts a) (parts b)
@@ -56,4 +56,4 @@ module _ (a b : Text) (m n : ℕ) (ha : m ≡ path_hash a) (hb : n ≡ path_hash
     where
       at : (v : Bool) → bytes_eq a b ≡ v → false ≡ bytes_eq a b
       at false e = sym e
-      at true e = absurd (eqb-false m n f (ha ∙ ap path_hash ((bytes_eq-Decides a b).0 e) ∙ sym hb))
+      at true e = absurd (eqb-false m n f (ha fa ∙ ap path_hash ((bytes_eq-Decides a b).0 e) ∙ sym (hb fb)))

@@ -1,5 +1,5 @@
 // Paths: clean ones, and what their parts say.
-ghost use Rattle.std.specs.Prelude.{◌≡◌, ◌+◌, ◌<◌, ◌≤◌, true, ◌++◌, length, is_ok, if◌then◌else◌, nat_le};
+ghost use Rattle.std.specs.Prelude.{◌≡◌, ◌+◌, ◌<◌, ◌≤◌, true, false, ◌==◌, ◌++◌, length, is_ok, if◌then◌else◌, nat_le};
 ghost use Rattle.stack.specs.Items.{items, capacity};
 ghost use Rattle.texts.specs.Hashes.{hashed, path_hash};
 ghost use Rattle.texts.specs.Parts.{clean, clean_pieces, every, named, parts, pieces, places, same_parts, written};
@@ -77,12 +77,12 @@ pub fn path_hash(path: &[u8]) -> u8
     128 + hash(path)
 }
 
-/// Whether two texts are the same path, by their hashes. Clean paths are the same if their bytes are.
+/// Whether two texts are the same path, by their hashes; 0 stands for one that was not made. Clean paths are the same if their bytes are.
 #[inline]
 #[tactic(auto, using(crate::proofs::SamePaths::hashed_same, crate::proofs::SamePaths::hashed_apart))]
 pub fn same_hashed_path(a: &[u8], a_hash: u8, b: &[u8], b_hash: u8) -> bool
-    requires hash_of_the_first { a_hash ≡ path_hash a.now }
-    requires hash_of_the_second { b_hash ≡ path_hash b.now }
+    requires hash_of_the_first_if_it_has_one { (a_hash == 0) ≡ false → a_hash ≡ path_hash a.now }
+    requires hash_of_the_second_if_it_has_one { (b_hash == 0) ≡ false → b_hash ≡ path_hash b.now }
     ensures part_for_part { result ≡ same_parts (parts a.now) (parts b.now) }
 {
     if a_hash == 0 || b_hash == 0 {

@@ -2,13 +2,13 @@
 ghost use Rattle.std.specs.Prelude.{◌≡◌, ◌<◌, ◌≤◌, false, [], None, length, ◌==◌};
 ghost use Rattle.stack.specs.Held as list;
 ghost use Rattle.texts.specs.Hashes.{path_hash};
-ghost use Rattle.texts.specs.Parts.{parts, same_parts};
+ghost use Rattle.texts.specs.Parts.{parts};
 ghost use Rattle.cache.specs.Seen.{Placed, fresh, holds, recalled, remember, renewed};
 ghost use Rattle.cache.specs.Held.{held, in_slot, seen};
 
 use super::{Entry, ROOM, Recent};
 use stack::ArrayVec;
-use texts::{Text, path_hash, same_hashed_path, same_path};
+use texts::{Text, path_hash, same_hashed_path};
 use tree::Kind;
 
 // A hash of what is asked pays where a path is held for every so many of its bytes: it is made from each of them, and a comparison without it stops early.
@@ -22,18 +22,6 @@ impl Entry {
     {
         let path = Text::new(path).unwrap();
         Entry { path, hash, kind }
-    }
-
-    // Whether the entry has the path, which has this hash; with 0 none was made.
-    fn has_path(&self, path: &[u8], hash: u8) -> bool
-        requires hash_of_the_path_if_there_is_one { (hash == 0) ≡ false → hash ≡ path_hash path.now }
-        ensures same_path_part_for_part { result ≡ same_parts (seen self.now).path (parts path.now) }
-    {
-        let held = self.path.as_bytes();
-        if hash == 0 {
-            return same_path(held, path);
-        }
-        same_hashed_path(held, self.hash, path, hash)
     }
 }
 
@@ -69,10 +57,10 @@ impl Recent {
         requires hash_of_the_path_if_there_is_one { (hash == 0) ≡ false → hash ≡ path_hash path.now }
         ensures place_if_held { Placed (parts path.now) (held self.now) result }
     {
-        self.order
-            .as_slice()
-            .iter()
-            .position(|slot| self.entry(*slot).has_path(path, hash))
+        self.order.as_slice().iter().position(|slot| {
+            let entry = self.entry(*slot);
+            same_hashed_path(entry.path.as_bytes(), entry.hash, path, hash)
+        })
     }
 
     // Whether the path is held.

@@ -7,7 +7,7 @@ ghost use Rattle.listing.specs.Meanings.{asked, fits, lists_kind, lists_manifest
 
 use crate::kinds::{LineKind, Topic};
 use crate::line::Line;
-use texts::{MAX_LEN, Text, path_hash, same_bytes, same_hashed_path, same_path};
+use texts::{MAX_LEN, Text, path_hash, same_bytes, same_hashed_path};
 use tree::{Kind, Way};
 
 impl Line {
@@ -41,11 +41,7 @@ impl Line {
         requires hash_of_the_path_if_there_is_one { (hash == 0) ≡ false → hash ≡ path_hash text.now }
         ensures same_path_part_for_part { result ≡ same_parts (parts (row self.now).first) (parts text.now) }
     {
-        let first = self.first.as_bytes();
-        if hash == 0 {
-            return same_path(first, text);
-        }
-        same_hashed_path(first, self.hash, text, hash)
+        same_hashed_path(self.first.as_bytes(), self.hash, text, hash)
     }
 
     // Whether the line decides what is asked about `text`, which has this hash as a path; with 0 none was made.
@@ -68,7 +64,7 @@ impl Line {
     }
 
     // Whether the line lists a manifest, a broken one or not.
-    pub(crate) fn lists_manifest(&self) -> bool
+    fn lists_manifest(&self) -> bool
         ensures manifest_or_a_broken_one { result ≡ lists_manifest self.now.kind }
     {
         matches!(self.kind, LineKind::BrokenManifest | LineKind::Manifest)

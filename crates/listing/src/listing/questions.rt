@@ -20,8 +20,7 @@ fn hash_for(lines: &[Line], topic: Topic, text: &[u8]) -> u8
     ensures hash_of_the_path_if_there_is_one { (result == 0) ≡ false → result ≡ path_hash text.now }
 {
     let compared = match topic {
-        Topic::Kind => lines.len(),
-        Topic::Manifest => lines.iter().filter(|line| line.lists_manifest()).count(),
+        Topic::Kind | Topic::Manifest => lines.len(),
         Topic::Lookup(_) => 0,
     };
     if text.len() / BYTES_A_LINE >= compared {
