@@ -1,5 +1,5 @@
 // What a lookup of the resolver ends in.
-ghost use Rattle.std.specs.Prelude.{◌≡◌, ◌+◌, min};
+ghost use Rattle.std.specs.Prelude.{◌≡◌, ◌+◌, length, min};
 ghost use Rattle.settings.specs.Meant.{tables};
 ghost use Rattle.lookup.specs.Outcomes.{answer};
 ghost use Rattle.resolver.specs.Runs.{ceiling, paths_in};
@@ -14,14 +14,16 @@ use tree::{FileTree, Host, Policy};
 
 /// The memory that is lent to the lookups of a sheet, one after the other.
 #[derive(Drop)]
-pub struct Memory {
+pub(crate) struct Memory {
     area: [u8; MIN_AREA],
     rows: [OpenCall; MIN_ROWS],
 }
 
 impl Memory {
     /// As much as a lookup asks for, blank.
-    pub fn new() -> Memory {
+    pub(crate) fn new() -> Memory
+        ensures as_much_as_a_lookup_asks_for { (length result.area ≡ 131072) × (length result.rows ≡ 1024) }
+    {
         Memory {
             area: [0; MIN_AREA],
             rows: [OpenCall::blank(); MIN_ROWS],

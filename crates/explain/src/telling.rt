@@ -122,7 +122,7 @@ fn quiet_told<H: Host, P: Policy, W: Write>(
     let Some(quiet) = quiet_end(alloc, host, policy, settings, question)? else {
         return Ok(());
     };
-    writeln!(out, "{quiet}")?;
+    write!(out, "{quiet}\n")?;
     Ok(())
 }
 

@@ -21,7 +21,7 @@ returns-clause-end_of_a_quiet_question g c =
     let p = option_map bytes_of c.in-Some.quiet.path in (
       quiet_sentence p ++ LINE_END ∷ [],
       (
-        c.in_ok-writeln.ensures.bytes,
+        c.in_ok-write.ensures.bytes,
         (
           Some p,
           (
