@@ -67,7 +67,8 @@ impl Recent {
     pub fn holds(&self, path: &[u8]) -> bool
         ensures by_its_parts { result ≡ holds (parts path.now) (held self.now) }
     {
-        let few = path.len() / BYTES_A_PATH >= self.order.as_slice().len();
+        let held = self.order.as_slice().len();
+        let few = held.saturating_mul(BYTES_A_PATH) <= path.len();
         let hash = if few { 0 } else { path_hash(path) };
         self.place(path, hash).is_some()
     }

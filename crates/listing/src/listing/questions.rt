@@ -23,7 +23,7 @@ fn hash_for(lines: &[Line], topic: Topic, text: &[u8]) -> u8
         Topic::Kind | Topic::Manifest => lines.len(),
         Topic::Lookup(_) => 0,
     };
-    if text.len() / BYTES_A_LINE >= compared {
+    if compared.saturating_mul(BYTES_A_LINE) <= text.len() {
         return 0;
     }
     path_hash(text)
