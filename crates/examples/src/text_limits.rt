@@ -2,8 +2,8 @@
 use paths::{normalize, normalize_with};
 use std::test::Fail;
 use texts::{
-    Place, Text, copy_text, count_parts, is_clean, is_text, same_bytes, same_path,
-    trim_final_slashes,
+    Place, Text, copy_text, count_parts, is_clean, is_text, path_hash, same_bytes,
+    same_hashed_path, same_path, trim_final_slashes,
 };
 
 // Whether the first `len` bytes of `out` are `expected`.
@@ -59,6 +59,40 @@ fn clean_paths(rt: HostRuntime) {
     ];
     for (path, clean) in paths {
         assert!(rt; is_clean(path) == clean);
+    }
+}
+
+#[test]
+fn hashes_of_paths(rt: HostRuntime) {
+    let hashes = [
+        (b"/".as_slice(), 175),
+        (b"/a", 146),
+        (b"/lib", 246),
+        (b"/Aa", 175),
+        (b"/BB", 175),
+        (b"", 0),
+        (b"lib", 0),
+        (b"/lib/", 0),
+    ];
+    for (path, hash) in hashes {
+        assert!(rt; path_hash(path) == hash);
+    }
+}
+
+#[test]
+fn paths_are_the_same_with_their_hashes_as_without(rt: HostRuntime) {
+    let pairs = [
+        (b"/lib".as_slice(), b"/lib".as_slice(), true),
+        (b"/lib", b"//lib/", true),
+        (b"/lib", b"/a", false),
+        (b"/Aa", b"/BB", false),
+        (b"lib", b"/lib", false),
+    ];
+    for (a, b, same) in pairs {
+        let (first, second) = (path_hash(a), path_hash(b));
+        for (first, second) in [(first, second), (first, 0), (0, second), (0, 0)] {
+            assert!(rt; same_hashed_path(a, first, b, second) == same);
+        }
     }
 }
 
